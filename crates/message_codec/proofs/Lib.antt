@@ -1,0 +1,4 @@
+pub mod CodeTexts
+pub mod Readers
+pub mod FieldLaws
+pub mod Bodies

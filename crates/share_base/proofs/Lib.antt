@@ -1,0 +1,2 @@
+pub mod ToldLists
+pub mod Digits

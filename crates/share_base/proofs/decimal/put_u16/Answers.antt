@@ -1,0 +1,11 @@
+use Rattle.std.proofs.Common.{length, ap, arith}
+use Rattle.std.specs.Fmt.{decimal}
+use Rattle.std.proofs.lemmas.List.{length-append}
+use Rattle.share_base.proofs.Digits.{digits_of_two}
+use Rattle.share_base.proofs.decimal.put_u16.Goals as goal
+
+pub put_digits-requires : goal.put_digits-requires
+put_digits-requires c = omega (arith, digits_of_two c.args.number (omega arith))
+
+pub returns-clause-bound : goal.returns-clause-bound
+returns-clause-bound c = omega (arith, digits_of_two c.args.number (omega arith), ap length c.put_digits.ensures, length-append c.args.out.now (decimal c.args.number))

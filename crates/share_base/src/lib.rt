@@ -1,0 +1,26 @@
+//! What every other crate stands on: lists of bytes, a fixed buffer of printed lines, decimal
+//! numbers, and the outside as two traits, `Source` and `Sink`, with forms of them in memory.
+//!
+//! It owns the words for what an outside tells and counts (`specs/Told.antt`, `specs/Counts.antt`).
+//! It may know no frame, no message and no command.
+#![tactic(auto)]
+
+mod decimal;
+mod lines;
+mod memory_sink;
+mod memory_source;
+mod octets;
+mod out_of_memory;
+mod sink;
+mod source;
+#[cfg(test)]
+mod tests;
+
+pub use decimal::{put_i16, put_u16, put_u32, put_u64};
+pub use lines::Lines;
+pub use memory_sink::MemorySink;
+pub use memory_source::MemorySource;
+pub use octets::Octets;
+pub use out_of_memory::OutOfMemory;
+pub use sink::{Sink, SinkAnswer, write_all};
+pub use source::{Source, SourceAnswer};

@@ -1,0 +1,5 @@
+pub mod Frames
+pub mod Streams
+pub mod Runs
+pub mod OneSplit
+pub mod SingleWords

@@ -1,0 +1,7 @@
+pub mod Printed
+pub mod Injecting
+pub mod Causes
+pub mod Draining
+pub mod Statuses
+pub mod Words
+pub mod Commands

@@ -1,0 +1,52 @@
+//! The program: the top call, its commands, and the real objects that they are run on.
+//!
+//! It owns the words that name a command, the statuses that a command ends with, and the statement
+//! of what a command does with the bytes that it reads (`specs/`). What happens to bytes below that,
+//! the crates below know.
+#![tactic(auto)]
+
+mod command;
+mod injecting;
+mod laws;
+mod printing;
+mod real;
+mod status;
+#[cfg(test)]
+mod tests;
+mod top;
+
+pub use command::{Command, form};
+pub use injecting::run_inject;
+pub use laws::one_reading;
+pub use real::{StdSink, StdSource};
+pub use status::{LostCause, Status};
+use std::env;
+use std::io::{ErrorKind, Write};
+use std::process::ExitCode;
+pub use top::run;
+
+/// The words after the program's name. A word that is not UTF-8 is no word of a command.
+fn words_of(rt: &HostRuntime) -> Result<Vec<String>, Status> {
+    let all = match env::args(rt) {
+        Ok(all) => all,
+        Err(error) if error.kind() == ErrorKind::OutOfMemory => return Err(Status::OutOfMemory),
+        Err(_) => return Err(Status::Usage),
+    };
+    let mut words = Vec::new(rt.alloc());
+    for word in all.skip(1) {
+        words.push(word).map_err(|_| Status::OutOfMemory)?;
+    }
+    Ok(words)
+}
+
+fn main(rt: HostRuntime) -> ExitCode {
+    let mut input = StdSource::new(rt.stdin());
+    let mut out = StdSink::new(rt.stdout());
+    let status = match words_of(&rt) {
+        Ok(words) => run(rt.alloc(), &words, &mut input, &mut out),
+        Err(status) => status,
+    };
+    // Where even standard error fails, the exit code is left to tell.
+    let _ = rt.stderr().write_all(status.report().as_slice());
+    ExitCode::from(status.code())
+}

@@ -1,0 +1,78 @@
+//! How a command ends.
+
+ghost use Rattle.std.specs.Prelude.{◌≡◌};
+
+use share_base::{Lines, put_u64};
+
+/// How a connection was lost.
+#[derive(Clone, Copy, Debug, PartialEq, Eq)]
+pub enum LostCause {
+    /// It ended.
+    Ended,
+}
+
+/// How a command ends. `docs/protocol.md` has the table of codes and lines.
+#[derive(Clone, Copy, Debug, PartialEq, Eq)]
+pub enum Status {
+    /// All was done.
+    Ok,
+    /// A frame that is not read yet stands at that place, the number of bytes before it.
+    NotYet {
+        /// Where its length field begins.
+        place: u64,
+    },
+    /// More bytes were read than a command takes.
+    InputTooLong,
+    /// The words name no command.
+    Usage,
+    /// The input failed.
+    ReadFault,
+    /// The output failed.
+    WriteFault,
+    /// Memory could not be had.
+    OutOfMemory,
+    /// The peer was lost.
+    Lost(LostCause),
+}
+
+impl Status {
+    ghost use Rattle.synergy_share.specs.Statuses.{exit_code, status_line};
+
+    /// The exit code, 0 to 10.
+    pub fn code(&self) -> u8
+        ensures { result ≡ exit_code self.now }
+    {
+        match self {
+            Status::Ok => 0,
+            Status::InputTooLong => 1,
+            Status::Usage => 2,
+            Status::ReadFault => 3,
+            Status::WriteFault => 4,
+            Status::OutOfMemory => 6,
+            Status::Lost(LostCause::Ended) => 9,
+            Status::NotYet { place: _ } => 10,
+        }
+    }
+
+    /// The line on standard error, with its newline; none for `Ok`. It takes no memory.
+    pub fn report(&self) -> Lines
+        ensures { result ≡ status_line self.now }
+    {
+        let mut line = Lines::new();
+        match *self {
+            Status::Ok => {}
+            Status::InputTooLong => line.extend(b"input too long\n"),
+            Status::Usage => line.extend(b"usage\n"),
+            Status::ReadFault => line.extend(b"read fault\n"),
+            Status::WriteFault => line.extend(b"write fault\n"),
+            Status::OutOfMemory => line.extend(b"out of memory\n"),
+            Status::Lost(LostCause::Ended) => line.extend(b"lost ended\n"),
+            Status::NotYet { place } => {
+                line.extend(b"not yet ");
+                put_u64(&mut line, place);
+                line.extend(b"\n");
+            }
+        }
+        line
+    }
+}
