@@ -3,3 +3,5 @@ pub mod Told
 pub mod Reading
 pub mod Writing
 pub mod Memory
+pub mod Clips
+pub mod Reasons
