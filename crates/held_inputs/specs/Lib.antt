@@ -1,0 +1,5 @@
+pub mod Hex
+pub mod Line
+pub mod Down
+pub mod Balanced
+pub mod Table
