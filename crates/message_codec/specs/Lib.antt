@@ -1,6 +1,6 @@
+pub mod Marks
+pub mod Kinds
 pub mod Fields
-pub mod Reading
 pub mod Table
+pub mod Codes
 pub mod Spelling
-pub mod Decoding
-pub mod Streams

@@ -5,14 +5,9 @@
 //! where bytes come from or what becomes of a message.
 #![tactic(auto)]
 
+mod clip_mark;
 mod coding;
-mod decoding;
-mod laws;
 mod messages;
-mod reading;
-#[cfg(test)]
-mod tests;
 
-pub use decoding::{BadBody, DecodeFault, decode};
-pub use laws::one_message;
+pub use clip_mark::ClipMark;
 pub use messages::{End, Msg};

@@ -1,4 +1,0 @@
-pub mod CodeTexts
-pub mod Readers
-pub mod FieldLaws
-pub mod Bodies
