@@ -3,3 +3,5 @@ pub mod Line
 pub mod Down
 pub mod Balanced
 pub mod Table
+pub mod Screen
+pub mod Stands

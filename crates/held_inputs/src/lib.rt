@@ -6,10 +6,14 @@
 //! messages come from or where lines go.
 #![tactic(auto)]
 
+mod held;
+mod injector;
 mod keys;
+mod laws;
 mod line;
 mod printing;
 
-pub use keys::{HeldKey, HeldKeys};
+pub use injector::Injector;
+pub use laws::released;
 pub use line::Line;
 pub use printing::put_line;

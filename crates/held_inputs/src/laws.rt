@@ -1,0 +1,17 @@
+//! Laws over all lists of calls, on which other crates rest. The calls do nothing: their contracts are
+//! the laws.
+
+ghost use Rattle.std.specs.Prelude.{◌≡◌, List, [], ◌∷◌, ◌++◌};
+ghost use Rattle.modifier_map.specs.declared.map.ModMap.{ModMap};
+ghost use Rattle.held_inputs.specs.Screen.{Call, ReleasesAll, screen, after};
+ghost use Rattle.held_inputs.specs.Balanced.{Balanced, NothingDown, ClearAtLeaves};
+
+/// Whatever a screen is told, after its releases every key and every mouse button has gone up, one up
+/// for each down, and nothing was down where it was left. A list of calls grows by one call as `after`
+/// says, so what an injector's calls say of all screens holds of all lists of calls.
+pub fn released()
+    ensures balanced { (mods : ModMap) (calls : List Call) → Balanced (screen mods (calls ++ ReleasesAll ∷ [])).lines }
+    ensures nothing { (mods : ModMap) (calls : List Call) → NothingDown (screen mods (calls ++ ReleasesAll ∷ [])).lines }
+    ensures leaves { (mods : ModMap) (calls : List Call) → ClearAtLeaves (screen mods calls).lines }
+    ensures grows { (mods : ModMap) (calls : List Call) (c : Call) → screen mods (calls ++ c ∷ []) ≡ after (screen mods calls) c }
+{}
