@@ -5,3 +5,5 @@ pub mod Histories
 pub mod Tables
 pub mod Standing
 pub mod Releasing
+pub mod WordsApart
+pub mod LineTexts

@@ -5,3 +5,4 @@ pub mod Balanced
 pub mod Table
 pub mod Screen
 pub mod Stands
+pub mod Ranges

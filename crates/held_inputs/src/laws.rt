@@ -1,8 +1,11 @@
 //! Laws over all lists of calls, on which other crates rest. The calls do nothing: their contracts are
 //! the laws.
 
-ghost use Rattle.std.specs.Prelude.{◌≡◌, List, [], ◌∷◌, ◌++◌};
+ghost use Rattle.std.specs.Prelude.{◌≡◌, ℕ, List, [], ◌∷◌, ◌++◌};
 ghost use Rattle.modifier_map.specs.declared.map.ModMap.{ModMap};
+ghost use Rattle.held_inputs.specs.declared.line.Line.{Line};
+ghost use Rattle.held_inputs.specs.Line.{line_of};
+ghost use Rattle.held_inputs.specs.Ranges.{Fits};
 ghost use Rattle.held_inputs.specs.Screen.{Call, ReleasesAll, screen, after};
 ghost use Rattle.held_inputs.specs.Balanced.{Balanced, NothingDown, ClearAtLeaves};
 
@@ -14,4 +17,10 @@ pub fn released()
     ensures nothing { (mods : ModMap) (calls : List Call) → NothingDown (screen mods (calls ++ ReleasesAll ∷ [])).lines }
     ensures leaves { (mods : ModMap) (calls : List Call) → ClearAtLeaves (screen mods calls).lines }
     ensures grows { (mods : ModMap) (calls : List Call) (c : Call) → screen mods (calls ++ c ∷ []) ≡ after (screen mods calls) c }
+{}
+
+/// No line's text begins another's, and each is the text of one line. So printed bytes have one
+/// reading as lines.
+pub fn one_text()
+    ensures { (l m : Line) (x y : List ℕ) → Fits l → Fits m → line_of l ++ x ≡ line_of m ++ y → (l ≡ m) × (x ≡ y) }
 {}

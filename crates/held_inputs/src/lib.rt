@@ -14,6 +14,6 @@ mod line;
 mod printing;
 
 pub use injector::Injector;
-pub use laws::released;
+pub use laws::{one_text, released};
 pub use line::Line;
 pub use printing::put_line;
