@@ -47,7 +47,6 @@ good-applied s h (msg.ButtonUp b) = by (is_button_down s.lines b) refl
     by : (t : Bool) → is_button_down s.lines b ≡ t → Good (s.lines ++ cond t (ButtonUp b ∷ []) [])
     by true e = good-step s.lines (ButtonUp b) h e
     by false e = rw (append-nil s.lines) h
-
 good-applied s h (msg.MoveTo x y) = good-step s.lines (MoveTo x y) h tt
 good-applied s h (msg.MoveBy dx dy) = good-step s.lines (MoveBy dx dy) h tt
 good-applied s h (msg.Wheel dx dy) = good-step s.lines (Wheel dx dy) h tt

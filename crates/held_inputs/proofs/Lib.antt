@@ -7,3 +7,4 @@ pub mod Standing
 pub mod Releasing
 pub mod WordsApart
 pub mod LineTexts
+pub mod Rows

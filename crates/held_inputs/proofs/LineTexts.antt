@@ -4,7 +4,7 @@ use Rattle.std.specs.Prelude.{ℤ, codes, cond, ◌==◌, ◌||◌, FitsSigned}
 use Rattle.std.specs.Int.{w16, w32, to_be_bytes, from_be_bytes}
 use Rattle.std.specs.Int.Signed.{mag}
 use Rattle.std.specs.Fmt.{decimal, signed_decimal}
-use Rattle.std.specs.List.{AllByRecursion}
+use Rattle.std.specs.List.{flat_map, AllByRecursion}
 use Rattle.std.proofs.lemmas.Fmt.{decimal_injective, signed_decimal_injective}
 use Rattle.std.proofs.lemmas.Nat.{from_be_bytes-to_be_bytes_4}
 use Rattle.share_base.specs.Clips.{clip_number}
@@ -243,3 +243,16 @@ one_text l m x y f g e =
     let p = words-apart (first_word l) (first_word m) (further_words l) (further_words m) x y (dark-first l) (dark-first m) (dark-further l f) (dark-further m g) q in
     let k : kind l ≡ kind m = sym (kind-is l) ∙ ap (λ (w : List ℕ). kind_at w (further_words l)) p.0 ∙ ap (kind_at (first_word m)) p.1 ∙ kind-is m in
     (same l m f g p.1 k, p.2)
+
+-- a line has a text
+no_text : (l : Line) (x : List ℕ) → line_of l ++ x ≡ [] → ⊥
+no_text Leave x e = cc
+no_text l x e = cc
+
+pub one_list : (ls ms : List Line) → AllByRecursion Fits ls → AllByRecursion Fits ms → flat_map line_of ls ≡ flat_map line_of ms → ls ≡ ms
+one_list [] [] f g e = refl
+one_list [] (m ∷ ms) f g e = absurd (no_text m (flat_map line_of ms) (sym e))
+one_list (l ∷ ls) [] f g e = absurd (no_text l (flat_map line_of ls) e)
+one_list (l ∷ ls) (m ∷ ms) f g e =
+    let p = one_text l m (flat_map line_of ls) (flat_map line_of ms) f.0 g.0 e in
+    rw (p.0, one_list ls ms f.1 g.1 p.1) refl

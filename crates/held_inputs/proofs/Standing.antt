@@ -166,6 +166,7 @@ saved i on = tells-line i i (msg.Saver on) (saver_line on) (λ s h. refl) (λ s 
     key : (b : ℕ) (t : Bool) → names_key b (cond t SaverOff SaverOn) ≡ false
     key b true = refl
     key b false = refl
+
     button : (b : ℕ) (t : Bool) → names_button b (cond t SaverOff SaverOn) ≡ false
     button b true = refl
     button b false = refl

@@ -1,4 +1,4 @@
--- Lines whose numbers are in the ranges of their fields.
+-- Lines whose numbers are in the ranges of their fields, as those of every line of the program are.
 use Rattle.std.specs.Prelude.{ℕ, ◌<◌, ◌^◌, FitsSigned}
 use Rattle.std.specs.List.{AllByRecursion}
 use Rattle.std.specs.Int.{w16}

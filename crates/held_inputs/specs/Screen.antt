@@ -24,10 +24,10 @@ pub data Call : Type 0 where
   ReleasesAll : Call
 
 -- what an id and a mask are injected as; no id where the map leaves the key out
-abbrev pub meant_id : ModMap → ℕ → Option ℕ
+unfoldable pub meant_id : ModMap → ℕ → Option ℕ
 meant_id mods id = option_map (λ (key : KeyId). key.0) (key_under mods (record { 0 = id }))
 
-abbrev pub meant_mask : ModMap → ℕ → ℕ
+unfoldable pub meant_mask : ModMap → ℕ → ℕ
 meant_mask mods mask = (mask_under mods (record { 0 = mask })).0
 
 -- a key that is up goes down where there is room for it and it means something

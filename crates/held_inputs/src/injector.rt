@@ -65,7 +65,11 @@ impl Injector {
                 count,
                 button,
             } => one(self.repeat(*mask, *count, *button)),
-            Msg::KeyUp { id: _, mask: _, button } => one(self.lift(*button)),
+            Msg::KeyUp {
+                id: _,
+                mask: _,
+                button,
+            } => one(self.lift(*button)),
             Msg::ButtonDown { b } => one(self.push(*b)),
             Msg::ButtonUp { b } => one(self.let_go(*b)),
             Msg::MoveTo { x, y } => one(Some(Line::MoveTo { x: *x, y: *y })),
@@ -115,10 +119,9 @@ impl Injector {
     {
         let mask = self.meant_mask(mask);
         if let Some(id) = self.held.id(button) {
-            let count = 1;
             return Some(Line::KeyRepeat {
                 id,
-                count,
+                count: 1,
                 button,
                 mask,
             });
@@ -177,6 +180,7 @@ impl Injector {
     }
 
     /// What an id is injected as, if at all.
+    #[tactic(auto, unfolding(crate::specs::Screen::meant_id))]
     fn meant_id(&self, id: u16) -> Option<u16>
         ensures { result ≡ meant_id self.now.mods id }
     {
@@ -187,6 +191,7 @@ impl Injector {
     }
 
     /// What a mask is injected as.
+    #[tactic(auto, unfolding(crate::specs::Screen::meant_mask))]
     fn meant_mask(&self, mask: u16) -> u16
         ensures { result ≡ meant_mask self.now.mods mask }
     {

@@ -2,6 +2,7 @@
 //! the laws.
 
 ghost use Rattle.std.specs.Prelude.{◌≡◌, ℕ, List, [], ◌∷◌, ◌++◌};
+ghost use Rattle.std.specs.List.{flat_map, AllByRecursion};
 ghost use Rattle.modifier_map.specs.declared.map.ModMap.{ModMap};
 ghost use Rattle.held_inputs.specs.declared.line.Line.{Line};
 ghost use Rattle.held_inputs.specs.Line.{line_of};
@@ -19,8 +20,9 @@ pub fn released()
     ensures grows { (mods : ModMap) (calls : List Call) (c : Call) → screen mods (calls ++ c ∷ []) ≡ after (screen mods calls) c }
 {}
 
-/// No line's text begins another's, and each is the text of one line. So printed bytes have one
-/// reading as lines.
+/// The text of no line begins that of another, and the text of a list of lines is that of no other
+/// list. So printed bytes have one reading as lines.
 pub fn one_text()
-    ensures { (l m : Line) (x y : List ℕ) → Fits l → Fits m → line_of l ++ x ≡ line_of m ++ y → (l ≡ m) × (x ≡ y) }
+    ensures line { (l m : Line) (x y : List ℕ) → Fits l → Fits m → line_of l ++ x ≡ line_of m ++ y → (l ≡ m) × (x ≡ y) }
+    ensures list { (ls ms : List Line) → AllByRecursion Fits ls → AllByRecursion Fits ms → flat_map line_of ls ≡ flat_map line_of ms → ls ≡ ms }
 {}

@@ -12,6 +12,8 @@ mod keys;
 mod laws;
 mod line;
 mod printing;
+#[cfg(test)]
+mod tests;
 
 pub use injector::Injector;
 pub use laws::{one_text, released};
