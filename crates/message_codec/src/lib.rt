@@ -7,7 +7,14 @@
 
 mod clip_mark;
 mod coding;
+mod decoding;
+mod drafts;
+mod faults;
 mod messages;
+mod reading;
+mod rows;
 
 pub use clip_mark::ClipMark;
+pub use decoding::decode;
+pub use faults::{BadBody, DecodeFault};
 pub use messages::{End, Msg};
