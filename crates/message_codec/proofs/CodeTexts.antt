@@ -87,3 +87,7 @@ pub no_sent : (from : End) (body : List ℕ) (c d : Code) (rest : List ℕ) → 
 no_sent from body c d rest found not_sent sent begins =
     let same : d ≡ c = some_is d c (sym (code_at-text from d rest sent) ∙ sym (ap (code_at from) begins) ∙ found) in
     not_sent (subst (λ (e : Code). SentBy e from) same sent)
+
+pub text_is_short : (c : Code) → length (text c) ≤ 7
+text_is_short code.Hello = omega arith
+text_is_short c = omega arith

@@ -6,3 +6,5 @@ pub mod Building
 pub mod Bodies
 pub mod Misfits
 pub mod RefusalLaws
+pub mod Putting
+pub mod Narrow

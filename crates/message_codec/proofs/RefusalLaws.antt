@@ -1,19 +1,22 @@
 -- A body that is refused spells no message, and is refused for one fault.
 use Rattle.std.proofs.Common.{◌≡◌, ℕ, ◌-◌, ◌<◌, ◌≤◌, Bool, true, false, List, [], ◌++◌, length, Option, Some, None, Ok, Err, refl, sym, ap, subst, ◌∙◌, arith}
-use Rattle.std.specs.Prelude.{IsTrue, position}
+use Rattle.std.specs.Prelude.{IsTrue, position, Result, IfOk, IfErr}
 use Rattle.message_codec.specs.declared.messages.End.{End}
 use Rattle.message_codec.specs.declared.messages.Msg.{Msg}
 use Rattle.message_codec.specs.declared.coding.Code.{Code}
 use Rattle.message_codec.specs.declared.faults.BadBody.{BadBody}
 use Rattle.message_codec.specs.declared.faults.BadBody.TheVariants as bad
+use Rattle.message_codec.specs.declared.faults.DecodeFault.{DecodeFault}
+use Rattle.message_codec.specs.declared.faults.DecodeFault.TheVariants as fault
 use Rattle.message_codec.specs.Fields.{Field, spelled_all}
 use Rattle.message_codec.specs.Reading.{Read}
 use Rattle.message_codec.specs.Table.{code_of, fields}
 use Rattle.message_codec.specs.Spelling.{Spells}
-use Rattle.message_codec.specs.Refusals.{is_bad_clip, is_bad_mark, place_of, Reads, Misfits, Refuses}
+use Rattle.message_codec.specs.Refusals.{is_bad_clip, is_bad_mark, place_of, Reads, Misfits, Refuses, RefusedFor}
+use Rattle.message_codec.specs.Decoding.{IsDecoded}
 use Rattle.message_codec.proofs.Readers.{ok_is}
 use Rattle.message_codec.proofs.CodeTexts.{some_is}
-use Rattle.message_codec.proofs.Bodies.{one_reading, one_reading_code, spelled_reads}
+use Rattle.message_codec.proofs.Bodies.{one_reading, one_reading_code, spelled_reads, one_message}
 use Rattle.message_codec.proofs.Misfits.{clips_are_good, marks_are_good}
 
 pub never : IsTrue false → ⊥
@@ -139,3 +142,9 @@ one_refusal from (bad.Short at) b body h k = is_short from at b body h k
 one_refusal from (bad.Trailing at) b body h k = is_trailing from at b body h k
 one_refusal from (bad.BadClip at) b body h k = is_bad_clip_at from at b body h k
 one_refusal from (bad.BadMark at) b body h k = is_bad_mark_at from at b body h k
+
+-- what spells a message is decoded as it
+pub spelled_is_decoded : (from : End) (m : Msg) (body : List ℕ) (answer : Result Msg DecodeFault) → Spells from m body → IfOk answer (λ n. Spells from n body) → IfErr answer (λ why. RefusedFor why from body) → IsDecoded m answer
+spelled_is_decoded from m body (Ok n) spells found refused = one_message from n m body found spells
+spelled_is_decoded from m body (Err (fault.Bad why)) spells found refused = refused_spells_none from why m body refused spells
+spelled_is_decoded from m body (Err fault.OutOfMemory) spells found refused = tt

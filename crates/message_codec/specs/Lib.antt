@@ -8,3 +8,6 @@ pub mod Spelling
 pub mod Drafts
 pub mod Refusals
 pub mod Reasons
+pub mod Decoding
+pub mod Seen
+pub mod Showing
