@@ -8,3 +8,4 @@ pub mod Misfits
 pub mod RefusalLaws
 pub mod Putting
 pub mod Narrow
+pub mod OneVerdict

@@ -11,3 +11,5 @@ pub mod Reasons
 pub mod Decoding
 pub mod Seen
 pub mod Showing
+pub mod Streams
+pub mod Verdicts

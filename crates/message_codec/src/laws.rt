@@ -8,6 +8,8 @@ ghost use Rattle.message_codec.specs.declared.faults.DecodeFault.{DecodeFault};
 ghost use Rattle.message_codec.specs.Spelling.{Spells};
 ghost use Rattle.message_codec.specs.Refusals.{Refuses, RefusedFor};
 ghost use Rattle.message_codec.specs.Decoding.{IsDecoded};
+ghost use Rattle.message_codec.specs.Streams.{Reader};
+ghost use Rattle.message_codec.specs.Verdicts.{Verdict};
 
 /// No body spells two messages of one end.
 pub fn one_message()
@@ -28,4 +30,10 @@ pub fn one_refusal()
 /// want of memory. So what `encode` makes is decoded as the message that it was made of.
 pub fn spelled_is_decoded()
     ensures { (from : End) (m : Msg) (body : List ℕ) (answer : Result Msg DecodeFault) → Spells from m body → IfOk answer (λ n. Spells from n body) → IfErr answer (λ fault. RefusedFor fault from body) → IsDecoded m answer }
+{}
+
+/// A reader comes to one verdict on a stream: the same messages, the same rest at the same place, and
+/// the same reason for which it is bad, if it is.
+pub fn one_verdict()
+    ensures { (reader : Reader) (stream : List ℕ) (a b : Verdict reader stream) → (a.messages ≡ b.messages) × (a.rest ≡ b.rest) × (a.place ≡ b.place) × (a.bad ≡ b.bad) }
 {}
