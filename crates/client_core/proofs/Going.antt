@@ -46,11 +46,12 @@ go_on-last ms m h good goes = record {
 
 -- ---- the client
 
-pub kept_new : (core : ClientCore) → Shows core.printer fresh [] → core.framer ≡ begun body_limit → core.place ≡ 0 → core.total ≡ 0 → core.done ≡ None → Kept core [] [] []
-kept_new core shows framer place total done = record {
+pub kept_new : (core : ClientCore) → Shows core.printer fresh [] → core.framer ≡ begun body_limit → core.place ≡ 0 → core.total ≡ 0 → core.broken ≡ false → core.done ≡ None → Kept core [] [] []
+kept_new core shows framer place total whole done = record {
   heard = record { going = record { good = tt; goes = tt }; shows = shows };
   place = place;
   total = total;
+  whole = whole;
   stands = subst (λ (d : Option ClientEnd). StandsAt core d [] []) (sym done) is_open;
 }
   where
@@ -134,8 +135,8 @@ going_broken f was now new place total messages rest piece front w on same = rec
 }
 
 -- no whole frame is left
-pub kept_more : (f : FramerParts) (was : Printer) (core : ClientCore) (messages : List Msg) (rest piece front : List ℕ) → Going f was core.place core.total messages rest piece front → ShowsOn was core.printer → core.framer ≡ f → IsPartial body_limit f.rest → core.done ≡ None → Grows core messages rest piece front
-kept_more f was core messages rest piece front w on same partial none = record {
+pub kept_more : (f : FramerParts) (was : Printer) (core : ClientCore) (messages : List Msg) (rest piece front : List ℕ) → Going f was core.place core.total messages rest piece front → ShowsOn was core.printer → core.framer ≡ f → IsPartial body_limit f.rest → core.broken ≡ false → core.done ≡ None → Grows core messages rest piece front
+kept_more f was core messages rest piece front w on same partial whole none = record {
   more = w.more;
   left = f.rest;
   stream_is = w.stream_is;
@@ -143,14 +144,15 @@ kept_more f was core messages rest piece front w on same partial none = record {
     heard = record { going = w.going; shows = on (client (messages ++ w.more)) front w.shows };
     place = w.place_is;
     total = w.total_is;
+    whole = whole;
     stands = subst (λ (d : Option ClientEnd). StandsAt core d (messages ++ w.more) f.rest) (sym none)
         (subst (λ (x : FramerParts). IsOpen x (length (frames_of (messages ++ w.more))) f.rest) (sym same) (record { rest_is = refl; given = w.given; fine = w.fine; partial = partial }));
   };
 }
 
 -- the client ends at the rest
-pub kept_stop : (f : FramerParts) (was : Printer) (core : ClientCore) (end : ClientEnd) (messages : List Msg) (rest piece front : List ℕ) → Going f was core.place core.total messages rest piece front → ShowsOn was core.printer → ((before : List Msg) → f.given ≡ length (frames_of before) → EndsAt end before f.rest) → core.done ≡ Some end → Grows core messages rest piece front
-kept_stop f was core end messages rest piece front w on ends done = record {
+pub kept_stop : (f : FramerParts) (was : Printer) (core : ClientCore) (end : ClientEnd) (messages : List Msg) (rest piece front : List ℕ) → Going f was core.place core.total messages rest piece front → ShowsOn was core.printer → ((before : List Msg) → f.given ≡ length (frames_of before) → EndsAt end before f.rest) → core.broken ≡ false → core.done ≡ Some end → Grows core messages rest piece front
+kept_stop f was core end messages rest piece front w on ends whole done = record {
   more = w.more;
   left = f.rest;
   stream_is = w.stream_is;
@@ -158,6 +160,7 @@ kept_stop f was core end messages rest piece front w on ends done = record {
     heard = record { going = w.going; shows = on (client (messages ++ w.more)) front w.shows };
     place = w.place_is;
     total = w.total_is;
+    whole = whole;
     stands = subst (λ (d : Option ClientEnd). StandsAt core d (messages ++ w.more) f.rest) (sym done) (ends (messages ++ w.more) w.given);
   };
 }
@@ -226,17 +229,18 @@ heard_same : (core new : ClientCore) (messages : List Msg) (front : List ℕ) �
 heard_same core new messages front same h = record { going = h.going; shows = subst (λ (p : Printer). Shows p (client messages) front) (sym same) h.shows }
 
 -- bytes after the end are counted
-pub kept_over : (core new : ClientCore) (x : ClientEnd) (messages : List Msg) (rest piece front : List ℕ) → core.done ≡ Some x → new.printer ≡ core.printer → new.place ≡ core.place → new.total ≡ core.total + length piece → new.done ≡ core.done → Kept core messages rest front → Grows new messages rest piece front
-kept_over core new x messages rest piece front is printer place total done k = record {
+pub kept_over : (core new : ClientCore) (x : ClientEnd) (messages : List Msg) (rest piece front : List ℕ) → core.done ≡ Some x → new.printer ≡ core.printer → new.place ≡ core.place → new.total ≡ core.total + length piece → new.broken ≡ core.broken → new.done ≡ core.done → Kept core messages rest front → Grows new messages rest piece front
+kept_over core new x messages rest piece front is printer place total broken done k = record {
   more = [];
   left = rest ++ piece;
   stream_is = refl;
   kept = subst (λ (ms : List Msg). Kept new ms (rest ++ piece) front) (sym (append-nil messages)) (record {
-      heard = heard_same core new messages front printer k.heard;
-      place = place ∙ k.place;
-      total = omega (arith, total, k.total, length-append rest piece);
-      stands = subst (λ (d : Option ClientEnd). StandsAt new d messages (rest ++ piece)) (sym done) (stands_more core new core.done x messages rest piece is k.stands);
-    });
+    heard = heard_same core new messages front printer k.heard;
+    place = place ∙ k.place;
+    total = omega (arith, total, k.total, length-append rest piece);
+    whole = broken ∙ k.whole;
+    stands = subst (λ (d : Option ClientEnd). StandsAt new d messages (rest ++ piece)) (sym done) (stands_more core new core.done x messages rest piece is k.stands);
+  });
 }
 
 pub breaks_same : (core new : ClientCore) (messages : List Msg) (rest piece front : List ℕ) → new.printer ≡ core.printer → Breaks core messages rest piece front → Breaks new messages rest piece front
@@ -251,10 +255,11 @@ stands_same : (core new : ClientCore) (done : Option ClientEnd) (messages : List
 stands_same core new None messages rest same h = subst (λ (f : FramerParts). IsOpen f (length (frames_of messages)) rest) (sym same) h
 stands_same core new (Some x) messages rest same h = h
 
-pub kept_cleared : (core new : ClientCore) (messages : List Msg) (rest front : List ℕ) → ((s : Screen) (front : List ℕ) → Shows core.printer s front → Shows new.printer s (front ++ lines_in core)) → new.framer ≡ core.framer → new.place ≡ core.place → new.total ≡ core.total → new.done ≡ core.done → Kept core messages rest front → Kept new messages rest (front ++ lines_in core)
-kept_cleared core new messages rest front cleared framer place total done k = record {
+pub kept_cleared : (core new : ClientCore) (messages : List Msg) (rest front : List ℕ) → ((s : Screen) (front : List ℕ) → Shows core.printer s front → Shows new.printer s (front ++ lines_in core)) → new.framer ≡ core.framer → new.place ≡ core.place → new.total ≡ core.total → new.broken ≡ core.broken → new.done ≡ core.done → Kept core messages rest front → Kept new messages rest (front ++ lines_in core)
+kept_cleared core new messages rest front cleared framer place total broken done k = record {
   heard = heard_cleared core new messages front cleared k.heard;
   place = place ∙ k.place;
   total = total ∙ k.total;
+  whole = broken ∙ k.whole;
   stands = subst (λ (d : Option ClientEnd). StandsAt new d messages rest) (sym done) (stands_same core new core.done messages rest framer k.stands);
 }

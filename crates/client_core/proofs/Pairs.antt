@@ -23,17 +23,17 @@ with_left lines words = lines ++ flat_map line_of (option_lines words)
 pub left-next : (lines next all words more : List ℕ) (code value : ℕ) → with_left lines words ≡ all → words ≡ code ∷ value ∷ more → next ≡ lines ++ line_of (line.SetOption code value) → with_left next more ≡ all
 left-next lines next all words more code value all-is words-is next-is =
     ap (λ (t : List ℕ). t ++ flat_map line_of (option_lines more)) next-is
-        ∙ append_assoc lines (line_of (line.SetOption code value)) (flat_map line_of (option_lines more))
-        ∙ ap (λ (t : List ℕ). lines ++ t) (sym (flat_map-cons line_of (line.SetOption code value) (option_lines more)))
-        ∙ ap (λ (t : List ℕ). with_left lines t) (sym words-is)
-        ∙ all-is
+    ∙ append_assoc lines (line_of (line.SetOption code value)) (flat_map line_of (option_lines more))
+    ∙ ap (λ (t : List ℕ). lines ++ t) (sym (flat_map-cons line_of (line.SetOption code value) (option_lines more)))
+    ∙ ap (λ (t : List ℕ). with_left lines t) (sym words-is)
+    ∙ all-is
 
 -- none is left
 pub left-none : (lines all words : List ℕ) → pairs words ≡ [] → with_left lines words ≡ all → lines ≡ all
 left-none lines all words none all-is =
     sym (append-nil lines)
-        ∙ ap (λ (ps : List (ℕ × ℕ)). lines ++ flat_map line_of (map (λ (option : ℕ × ℕ). line.SetOption option.0 option.1) ps)) (sym none)
-        ∙ all-is
+    ∙ ap (λ (ps : List (ℕ × ℕ)). lines ++ flat_map line_of (map (λ (option : ℕ × ℕ). line.SetOption option.0 option.1) ps)) (sym none)
+    ∙ all-is
 
 -- ---- the map
 

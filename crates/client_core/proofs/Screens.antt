@@ -31,10 +31,10 @@ use Rattle.client_core.specs.Kept.{Released}
 more_printed : (front old new more : List ℕ) (lines added : List Line) → front ++ old ≡ flat_map line_of lines → new ≡ old ++ more → more ≡ flat_map line_of added → front ++ new ≡ flat_map line_of (lines ++ added)
 more_printed front old new more lines added was new-is more-is =
     ap (λ (t : List ℕ). front ++ t) new-is
-        ∙ sym (append_assoc front old more)
-        ∙ ap (λ (t : List ℕ). t ++ more) was
-        ∙ ap (λ (t : List ℕ). flat_map line_of lines ++ t) more-is
-        ∙ sym (flat_map-append line_of lines added)
+    ∙ sym (append_assoc front old more)
+    ∙ ap (λ (t : List ℕ). t ++ more) was
+    ∙ ap (λ (t : List ℕ). flat_map line_of lines ++ t) more-is
+    ∙ sym (flat_map-append line_of lines added)
 
 one_line : (l : Line) → line_of l ≡ flat_map line_of (l ∷ [])
 one_line l = sym (append-nil (line_of l))
@@ -92,8 +92,8 @@ shows-cleared old new same none s front h = record {
 pub shows-released : (old : Printer) (new : Injector) (bytes : List ℕ) → Prints old.injector new ReleasesAll bytes → (s : Screen) (front : List ℕ) → Shows old s front → Releases s ((front ++ old.lines.items) ++ bytes)
 shows-released old new bytes prints s front h =
     ap (λ (t : List ℕ). t ++ bytes) h.printed
-        ∙ ap (λ (t : List ℕ). flat_map line_of s.lines ++ t) (prints.gives s h.stands)
-        ∙ sym (flat_map-append line_of s.lines (releases s.lines))
+    ∙ ap (λ (t : List ℕ). flat_map line_of s.lines ++ t) (prints.gives s h.stands)
+    ∙ sym (flat_map-append line_of s.lines (releases s.lines))
 
 -- ---- all messages
 

@@ -45,6 +45,7 @@ pub record Kept (core : ClientCore) (messages : List Msg) (rest front : List ℕ
   pub heard : Heard core messages front
   pub place : core.place ≡ length (frames_of messages)
   pub total : core.total ≡ length (frames_of messages) + length rest
+  pub whole : core.broken ≡ false
   pub stands : StandsAt core core.done messages rest
 
 -- a piece came after the rest: it brought more messages, and the client stands for what is left

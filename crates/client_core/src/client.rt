@@ -1,6 +1,6 @@
 //! The client.
 
-ghost use Rattle.std.specs.Prelude.{◌≡◌, ◌+◌, ◌≤◌, ◌^◌, ◌<◌, ◌++◌, [], List, ℕ, true, IfOk, IsErr, IsSome, OnErr, OnOk, length, unwrap_or};
+ghost use Rattle.std.specs.Prelude.{◌≡◌, ◌+◌, ◌≤◌, ◌^◌, ◌<◌, ◌++◌, [], List, ℕ, true, false, None, IfOk, IsOk, IsErr, IsSome, OnErr, OnOk, length, unwrap_or};
 ghost use Rattle.message_codec.specs.declared.messages.Msg.{Msg};
 
 use crate::client_end::ClientEnd;
@@ -31,7 +31,11 @@ impl ClientCore {
     /// The client of injection: it hears every message of a server, sends nothing, and no moment counts.
     /// It takes no memory yet, and answers `Ok`.
     pub fn injecting(alloc: Global) -> Result<ClientCore, OutOfMemory>
-        ensures { IfOk result (λ core. Kept core [] [] []) }
+        ensures made { IsOk result }
+        ensures kept { IfOk result (λ core. Kept core [] [] []) }
+        ensures goes { IfOk result (λ core. core.done ≡ None) }
+        ensures empty { IfOk result (λ core. lines_in core ≡ []) }
+        ensures total { IfOk result (λ core. core.total ≡ 0) }
     {
         Ok(ClientCore {
             alloc,
@@ -57,8 +61,8 @@ impl ClientCore {
         ensures total { self.new.total ≡ self.old.total + length piece.now }
 
         // Nothing more is heard after an end, nor after want of memory, which stays.
-        ensures over { OnOk result (IsSome self.old.done → (self.new.done ≡ self.old.done) × (self.new.printer ≡ self.old.printer)) }
-        ensures breaks { OnErr result (self.new.broken ≡ true) }
+        ensures over { self.old.broken ≡ false → IsSome self.old.done → IsOk result × (self.new.done ≡ self.old.done) × (self.new.printer ≡ self.old.printer) }
+        ensures breaks { OnErr result ((self.new.broken ≡ true) × (self.new.done ≡ self.old.done)) }
         ensures broken { self.old.broken ≡ true → IsErr result × (self.new.printer ≡ self.old.printer) }
     {
         if self.broken {
@@ -87,6 +91,7 @@ impl ClientCore {
         ensures err { OnErr result ((messages : List Msg) (rest front : List ℕ) → Kept self.old messages rest front
             → Breaks self.new messages rest piece.now front) }
         ensures total { self.new.total ≡ self.old.total + length piece.now }
+        ensures done { OnErr result (self.new.done ≡ self.old.done) }
     {
         self.total += piece.len() as u64;
         self.framer.feed(piece)?;
@@ -146,6 +151,7 @@ impl ClientCore {
     pub fn ended(&mut self, why: ClientEnd) -> Lines
         ensures done { self.new.done ≡ Some (unwrap_or self.old.done why) }
         ensures released { (messages : List Msg) (front : List ℕ) → Heard self.old messages front → Released messages ((front ++ lines_in self.old) ++ result) }
+        ensures lines { lines_in self.new ≡ lines_in self.old }
         ensures bound { length result ≤ 13824 }
     {
         self.done = Some(self.done.unwrap_or(why));

@@ -12,6 +12,8 @@ mod options;
 mod printer;
 mod stop;
 mod taking;
+#[cfg(test)]
+mod tests;
 
 pub use client::ClientCore;
 pub use client_end::{ClientEnd, LostCause, Which};

@@ -26,7 +26,8 @@ pub struct Printer {
 impl Printer {
     /// Nothing was heard. It takes no memory.
     pub fn new(alloc: Global) -> Printer
-        ensures { Shows result fresh [] }
+        ensures shows { Shows result fresh [] }
+        ensures empty { result.lines.items ≡ [] }
     {
         Printer {
             injector: Injector::new(ModMap::new()),
@@ -100,6 +101,7 @@ impl Printer {
     /// The ups of all that is down, which are not added to the lines. It takes no memory.
     pub fn release_all(&mut self) -> Lines
         ensures released { (s : Screen) (front : List ℕ) → Shows self.old s front → Releases s ((front ++ self.old.lines.items) ++ result) }
+        ensures lines { self.new.lines.items ≡ self.old.lines.items }
         ensures bound { length result ≤ 13824 }
     {
         self.injector.release_all()

@@ -9,6 +9,7 @@ abbrev pub invariant-loop-end : goal.invariant-loop-end
 invariant-loop-end l = record {
   going : (messages : List Msg) (rest front : List ℕ) → Kept l.fn.self messages rest front → Going l.self.framer l.self.printer l.self.place l.self.total messages rest l.piece front;
   goes : l.self.done ≡ None;
+  whole : l.self.broken ≡ l.fn.self.broken;
   total : l.self.total ≡ l.fn.self.total + length l.piece;
 }
 
