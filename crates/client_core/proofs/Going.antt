@@ -1,14 +1,14 @@
 -- A client between two frames of its stream.
-use Rattle.std.proofs.Common.{◌≡◌, ℕ, ◌+◌, ◌≤◌, Bool, false, cond, List, [], ◌∷◌, ◌++◌, length, take, Option, Some, None, refl, sym, ap, subst, ◌∙◌, append_assoc, arith, inl}
-use Rattle.std.specs.List.{flat_map, AllByRecursion}
+use Rattle.std.proofs.Common.{◌≡◌, ℕ, ◌+◌, ◌≤◌, Bool, false, cond, List, [], ◌∷◌, ◌++◌, length, Option, Some, None, refl, sym, ap, subst, ◌∙◌, append_assoc, arith, inl}
+use Rattle.std.specs.List.{AllByRecursion}
 use Rattle.std.proofs.lemmas.List.{length-append, append-nil, take-append-le}
-use Rattle.std.proofs.lemmas.List.Concat.{flat_map-append, flat_map-cons}
+use Rattle.std.proofs.lemmas.List.Concat.{flat_map-append}
 use Rattle.std.specs.Int.{w32, from_be_bytes}
 use Rattle.wire_frames.specs.Framing.{frame, length_field, IsPartial, IsTooLong}
-use Rattle.wire_frames.specs.Framers.{FramerParts, fed, moved, begun}
+use Rattle.wire_frames.specs.Framers.{FramerParts, fed, begun}
 use Rattle.message_codec.specs.declared.messages.Msg.{Msg}
-use Rattle.message_codec.specs.Streams.{body_limit, frame_of, frames_of, IsGood, AllGood}
-use Rattle.message_codec.specs.Verdicts.{IsRefused, IsMisplaced, IsBad}
+use Rattle.message_codec.specs.Streams.{body_limit, frame_of, frames_of, IsGood}
+use Rattle.message_codec.specs.Verdicts.{IsRefused, IsBad}
 use Rattle.message_codec.proofs.OneVerdict.{all_good-append}
 use Rattle.share_base.specs.declared.reason.Reason.{Reason}
 use Rattle.share_base.specs.declared.reason.Reason.TheVariants as reason
@@ -19,7 +19,7 @@ use Rattle.client_core.specs.declared.stop.Stop.{Stop}
 use Rattle.client_core.specs.declared.stop.Stop.TheVariants as stop
 use Rattle.client_core.specs.declared.printer.Printer.{Printer}
 use Rattle.client_core.specs.declared.client.ClientCore.{ClientCore}
-use Rattle.client_core.specs.Hearing.{heard, fresh, client}
+use Rattle.client_core.specs.Hearing.{fresh, client}
 use Rattle.client_core.specs.Showing.{Shows}
 use Rattle.client_core.specs.Ends.{server, stop_of, HasStop, EndsAt}
 use Rattle.client_core.specs.Kept.{GoOn, Heard, lines_in, IsOpen, StandsAt, Kept, Grows, Breaks}

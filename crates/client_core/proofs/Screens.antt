@@ -3,7 +3,7 @@ use Rattle.std.proofs.Common.{◌≡◌, ◌∙◌, ap, sym, subst, refl, ℕ, L
 use Rattle.std.specs.List.{flat_map, fold}
 use Rattle.std.specs.Prelude.{Result, Ok, Err, OnOk}
 use Rattle.std.proofs.lemmas.List.{append-nil}
-use Rattle.std.proofs.lemmas.List.Concat.{flat_map-append, flat_map-cons}
+use Rattle.std.proofs.lemmas.List.Concat.{flat_map-append}
 use Rattle.message_codec.specs.declared.messages.Msg.{Msg}
 use Rattle.message_codec.specs.declared.messages.Msg.TheVariants as msg
 use Rattle.share_base.specs.declared.clip_id.ClipId.{ClipId}
@@ -13,7 +13,6 @@ use Rattle.held_inputs.specs.declared.line.Line.TheVariants as line
 use Rattle.held_inputs.specs.declared.injector.Injector.{Injector}
 use Rattle.held_inputs.specs.Line.{line_of}
 use Rattle.held_inputs.specs.Down.{releases}
-use Rattle.held_inputs.specs.Balanced.{Balanced, ClearAtLeaves}
 use Rattle.held_inputs.specs.Screen.{Screen, Applies, ResetsOptions, ReleasesAll, after, lines_of, applied}
 use Rattle.held_inputs.specs.Stands.{Stands, Prints}
 use Rattle.held_inputs.proofs.Good.{Good, good-step}
@@ -21,7 +20,7 @@ use Rattle.held_inputs.proofs.Clearing.{cleared, good-releases}
 use Rattle.held_inputs.proofs.Histories.{good-call, good-nil, balanced-from}
 use Rattle.held_inputs.proofs.Standing.{stands-plain, with_line}
 use Rattle.client_core.specs.declared.printer.Printer.{Printer}
-use Rattle.client_core.specs.Hearing.{pairs, option_lines, set_all, heard, fresh, client, all_lines, SetsAll}
+use Rattle.client_core.specs.Hearing.{pairs, option_lines, set_all, heard, fresh, client, SetsAll}
 use Rattle.client_core.specs.Showing.{Shows, Releases}
 use Rattle.client_core.specs.Kept.{Released}
 

@@ -1,5 +1,5 @@
 -- What a client keeps of its stream.
-use Rattle.std.specs.Prelude.{◌≡◌, ℕ, ◌+◌, Bool, false, List, [], ◌∷◌, ◌++◌, length, Option, Some, None}
+use Rattle.std.specs.Prelude.{◌≡◌, ℕ, ◌+◌, false, List, [], ◌∷◌, ◌++◌, length, Option, Some, None}
 use Rattle.std.specs.List.{flat_map, AllByRecursion}
 use Rattle.wire_frames.specs.Framing.{IsPartial}
 use Rattle.wire_frames.specs.Framers.{FramerParts}
@@ -8,7 +8,6 @@ use Rattle.message_codec.specs.Streams.{body_limit, frames_of, AllGood}
 use Rattle.held_inputs.specs.Line.{line_of}
 use Rattle.held_inputs.specs.Balanced.{Balanced, ClearAtLeaves}
 use Rattle.client_core.specs.declared.client_end.ClientEnd.{ClientEnd}
-use Rattle.client_core.specs.declared.printer.Printer.{Printer}
 use Rattle.client_core.specs.declared.client.ClientCore.{ClientCore}
 use Rattle.client_core.specs.Hearing.{client, all_lines}
 use Rattle.client_core.specs.Showing.{Shows}

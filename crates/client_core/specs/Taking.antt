@@ -6,7 +6,6 @@ use Rattle.share_base.specs.declared.out_of_memory.OutOfMemory.{OutOfMemory}
 use Rattle.message_codec.specs.declared.messages.Msg.{Msg}
 use Rattle.message_codec.specs.Streams.{body_limit, frame_of, frames_of, IsGood}
 use Rattle.held_inputs.specs.Screen.{Screen}
-use Rattle.client_core.specs.declared.client_end.ClientEnd.{ClientEnd}
 use Rattle.client_core.specs.declared.printer.Printer.{Printer}
 use Rattle.client_core.specs.declared.taking.Taken.{Taken}
 use Rattle.client_core.specs.declared.taking.Taken.TheVariants as taken

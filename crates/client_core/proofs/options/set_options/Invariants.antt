@@ -1,4 +1,4 @@
-use Rattle.std.proofs.Common.{List, ℕ, length}
+use Rattle.std.proofs.Common.{length}
 use Rattle.held_inputs.specs.Screen.{Screen}
 use Rattle.held_inputs.specs.Stands.{Stands}
 use Rattle.client_core.proofs.Pairs.{Sets}

@@ -1,4 +1,4 @@
-use Rattle.std.proofs.Common.{◌≡◌, List, ℕ, ◌+◌, Result, Ok, Err, refl, ◌∙◌, length}
+use Rattle.std.proofs.Common.{◌+◌, Result, Ok, Err, refl, ◌∙◌, length}
 use Rattle.std.specs.Prelude.{OnErr}
 use Rattle.client_core.proofs.Going.{going_fed, going_one, going_broken, breaks_fed, kept_more, kept_stop}
 use Rattle.client_core.proofs.client.ClientCore.take_all.Goals as goal

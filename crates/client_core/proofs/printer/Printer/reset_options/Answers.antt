@@ -1,4 +1,4 @@
-use Rattle.client_core.proofs.Screens.{shows-reset, shows-same}
+use Rattle.client_core.proofs.Screens.{shows-reset}
 use Rattle.client_core.proofs.printer.Printer.reset_options.Goals as goal
 
 pub returns-clause-ok : goal.returns-clause-ok
