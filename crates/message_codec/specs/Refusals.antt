@@ -1,5 +1,5 @@
 -- Why a body spells no message.
-use Rattle.std.specs.Prelude.{◌≡◌, ℕ, ◌+◌, ◌-◌, ◌<◌, Bool, false, nat_lt, ◌||◌, List, [], ◌++◌, length, take, position, Option, Some, None, Ok, Err}
+use Rattle.std.specs.Prelude.{◌≡◌, ℕ, ◌+◌, ◌-◌, ◌<◌, Bool, false, nat_lt, ◌||◌, List, [], ◌++◌, length, take, position, Some, None, Ok, Err}
 use Rattle.message_codec.specs.declared.messages.End.{End}
 use Rattle.message_codec.specs.declared.coding.Code.{Code}
 use Rattle.message_codec.specs.declared.faults.BadBody.{BadBody}

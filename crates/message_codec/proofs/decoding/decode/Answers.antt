@@ -1,15 +1,10 @@
 use Rattle.std.proofs.Common.{◌≡◌, ◌<◌, ◌∙◌, List, ℕ, [], Ok, Err, length, sym, ap, subst, arith, rules}
 use Rattle.std.proofs.lemmas.List.{nil_from_length}
-use Rattle.message_codec.specs.declared.messages.End.{End}
-use Rattle.message_codec.specs.declared.coding.Code.{Code}
-use Rattle.message_codec.specs.declared.faults.BadBody.{BadBody}
-use Rattle.message_codec.specs.declared.drafts.Draft.{Draft}
 use Rattle.message_codec.specs.Fields.{Field}
 use Rattle.message_codec.specs.declared.reading.ReadError.{ReadError}
 use Rattle.message_codec.specs.Reading.{Fails, read_fields}
 use Rattle.message_codec.specs.Table.{SentBy, kinds, fields}
 use Rattle.message_codec.specs.Drafts.{draft_code, draft_fields}
-use Rattle.message_codec.specs.Refusals.{Reads, Misfits, Refuses}
 use Rattle.message_codec.proofs.CodeTexts.{code_at-begins, text_fits, no_code, no_sent}
 use Rattle.message_codec.proofs.Bodies.{reads_at, read_spells}
 use Rattle.message_codec.proofs.RefusalLaws.{never, misfit_refuses}
