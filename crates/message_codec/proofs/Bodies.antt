@@ -10,9 +10,9 @@ use Rattle.message_codec.specs.Fields.{Field, kind_of, spelled_all}
 use Rattle.message_codec.specs.Reading.{Read, read_fields}
 use Rattle.message_codec.specs.Table.{text, SentBy, kinds, code_of, fields}
 use Rattle.message_codec.specs.Spelling.{Spells}
-use Rattle.message_codec.specs.Refusals.{Reads}
 use Rattle.message_codec.specs.Codes.{code_at}
 use Rattle.message_codec.proofs.CodeTexts.{one_code, drop-text, code_at-begins}
+use Rattle.message_codec.proofs.ReadFaults.{Reads}
 use Rattle.message_codec.proofs.Readers.{IsBytes, IsBytes-drop, ok_is}
 use Rattle.message_codec.proofs.FieldLaws.{fields_take, fields_again}
 use Rattle.message_codec.proofs.Building.{same_parts}
