@@ -7,7 +7,21 @@
 
 mod clip_mark;
 mod coding;
+mod decoding;
+mod drafts;
+mod encoding;
+mod faults;
+mod fields;
+mod laws;
 mod messages;
+mod reading;
+mod rows;
+mod showing;
 
 pub use clip_mark::ClipMark;
+pub use decoding::decode;
+pub use encoding::{body_len, encode};
+pub use faults::{BadBody, DecodeFault};
+pub use laws::{one_message, one_refusal, one_verdict, refused_spells_none, spelled_is_decoded};
 pub use messages::{End, Msg};
+pub use showing::show;

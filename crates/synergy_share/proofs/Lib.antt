@@ -3,3 +3,4 @@ pub mod Streams
 pub mod Runs
 pub mod OneSplit
 pub mod SingleWords
+pub mod Unread

@@ -12,7 +12,7 @@ use Rattle.message_codec.proofs.Bodies.{one_message}
 use Rattle.synergy_share.specs.Injecting.{GoesOn, Begins, IsSettled}
 
 small : (m : Msg) → GoesOn m → length (body_of m) < 2 ^ 32
-small m going = omega (arith, going.good.within)
+small m going = omega (arith, going.within)
 
 bye_small : length (body_of msg.Bye) < 2 ^ 32
 bye_small = omega arith
@@ -25,7 +25,7 @@ frames-cons m ms rest = ap (λ (t : List ℕ). t ++ rest) (flat_map-cons frame_o
 one_going : (m n : Msg) (x y : List ℕ) → GoesOn m → GoesOn n → frame_of m ++ x ≡ frame_of n ++ y → (m ≡ n) × (x ≡ y)
 one_going m n x y g h same =
     let f = one_frame (body_of m) (body_of n) x y (small m g) (small n h) same in
-    (one_message ends.Server m n (body_of n) (subst (λ (b : List ℕ). Spells ends.Server m b) f.0 g.good.spelled) h.good.spelled, f.1)
+    (one_message ends.Server m n (body_of n) (subst (λ (b : List ℕ). Spells ends.Server m b) f.0 g.spelled) h.spelled, f.1)
 
 -- where a rest is settled, no message that goes on stands at its front
 settled_stops : (m : Msg) (x rest : List ℕ) → GoesOn m → IsSettled rest → rest ≡ frame_of m ++ x → ⊥
@@ -34,14 +34,14 @@ settled_stops m x rest g settled front =
       | inl partial ↦ frame_is_whole body_limit (body_of m) x rest (small m g) front partial
       | inr end ↦ elim end [
         | inl bad ↦ elim bad [
-          | inl long ↦ frame_fits body_limit (body_of m) x rest (small m g) g.good.within front long
+          | inl long ↦ frame_fits body_limit (body_of m) x rest (small m g) g.within front long
           | inr other ↦
               let f = one_frame other.body (body_of m) other.more x (omega (arith, other.within)) (small m g) (sym other.front ∙ front) in
-              other.none m (subst (λ (b : List ℕ). Spells ends.Server m b) (sym f.0) g.good.spelled)
+              other.none m (subst (λ (b : List ℕ). Spells ends.Server m b) (sym f.0) g.spelled) g.read
         ]
         | inr bye ↦
             let f = one_frame (body_of msg.Bye) (body_of m) bye.0 x bye_small (small m g) (sym bye.1 ∙ front) in
-            g.not_bye (one_message ends.Server m msg.Bye (body_of m) g.good.spelled (record { sent = refl; fits = tt; body_is = sym f.0 }))
+            g.not_bye (one_message ends.Server m msg.Bye (body_of m) g.spelled (record { sent = refl; fits = tt; body_is = sym f.0 }))
       ]
     ]
 

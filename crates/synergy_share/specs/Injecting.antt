@@ -1,13 +1,14 @@
 -- What injection writes of the bytes that it reads, and how it ends.
-use Rattle.std.specs.Prelude.{◌≡◌, ◌≢◌, ℕ, ◌<◌, ◌≤◌, ◌⊎◌, Bool, List, [], ◌++◌, length, take, Option}
+use Rattle.std.specs.Prelude.{◌≡◌, ◌≢◌, ℕ, ◌<◌, ◌≤◌, ◌⊎◌, Bool, true, false, List, [], ◌++◌, length, take, Option}
 use Rattle.std.specs.List.{AllByRecursion}
 use Rattle.share_base.specs.Told.{before, after, NoneLeft, IsSet}
 use Rattle.share_base.specs.Writing.{TakesFront}
-use Rattle.wire_frames.specs.Framing.{IsPartial}
+use Rattle.wire_frames.specs.Framing.{frame, IsPartial, IsTooLong}
 use Rattle.message_codec.specs.declared.messages.End.TheVariants as ends
 use Rattle.message_codec.specs.declared.messages.Msg.{Msg}
 use Rattle.message_codec.specs.declared.messages.Msg.TheVariants as msg
-use Rattle.message_codec.specs.Streams.{body_limit, frame_of, frames_of, IsGood, IsBadFrame}
+use Rattle.message_codec.specs.Spelling.{body_of, Spells}
+use Rattle.message_codec.specs.Streams.{body_limit, frame_of, frames_of}
 use Rattle.synergy_share.specs.declared.status.Status.{Status}
 use Rattle.synergy_share.specs.declared.status.Status.TheVariants as status
 use Rattle.synergy_share.specs.declared.status.LostCause.TheVariants as lost
@@ -18,9 +19,19 @@ input_limit = 1073741824
 
 -- ---- the messages of a stream
 
--- a message of the server that doesn't end the run
+-- the messages that are read so far
+abbrev pub is_read : Msg → Bool
+is_read (msg.Enter x y seq mask) = true
+is_read msg.Leave = true
+is_read (msg.MoveTo x y) = true
+is_read msg.Bye = true
+is_read m = false
+
+-- one of those, of the server, in a frame within the limit, that doesn't end the run
 pub record GoesOn (m : Msg) : Type 0 where
-  pub good : IsGood ends.Server m
+  pub spelled : Spells ends.Server m (body_of m)
+  pub within : length (body_of m) ≤ body_limit
+  pub read : is_read m ≡ true
   pub not_bye : m ≢ msg.Bye
 
 -- the stream is the frames of these messages, none of which ends the run, and then the rest
@@ -32,8 +43,16 @@ pub record Begins (messages : List Msg) (stream rest : List ℕ) : Type 0 where
 abbrev pub HasBye : List ℕ → Type 0
 HasBye bytes = (more : List ℕ) × (bytes ≡ frame_of msg.Bye ++ more)
 
+-- a whole frame within the limit stands at the front, and none of the messages that are read spells its body
+pub record IsUnread (bytes : List ℕ) : Type 0 where
+  pub body : List ℕ
+  pub more : List ℕ
+  pub front : bytes ≡ frame body ++ more
+  pub within : length body ≤ body_limit
+  pub none : (m : Msg) → Spells ends.Server m body → is_read m ≡ true → ⊥
+
 abbrev pub IsBad : List ℕ → Type 0
-IsBad bytes = IsBadFrame ends.Server bytes
+IsBad bytes = IsTooLong body_limit bytes ⊎ IsUnread bytes
 
 -- nothing that goes on stands at the front
 abbrev pub IsSettled : List ℕ → Type 0

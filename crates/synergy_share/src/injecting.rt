@@ -1,7 +1,7 @@
 //! Injection: the messages of a server's stream, as printed lines.
 
 ghost use Rattle.std.specs.Prelude.{◌≡◌};
-ghost use Rattle.synergy_share.specs.Injecting.{Injects};
+ghost use Rattle.synergy_share.specs.Injecting.{Injects, is_read};
 ghost use Rattle.synergy_share.specs.Causes.{Causes};
 ghost use Rattle.synergy_share.specs.Draining.{Steps, StepCounts, Drains, DrainCounts};
 
@@ -28,7 +28,41 @@ pub enum Step {
     Ended(Status),
 }
 
-fn print_next<K: Sink>(framer: &mut Framer, out: &mut K) -> Step
+// Whether a message is read so far.
+fn is_read(msg: &Msg) -> bool
+    ensures { result ≡ is_read msg.now }
+{
+    match msg {
+        Msg::Enter { .. } | Msg::Leave | Msg::MoveTo { .. } | Msg::Bye => true,
+        Msg::Hello { .. }
+        | Msg::HelloBack { .. }
+        | Msg::QueryInfo
+        | Msg::InfoAck
+        | Msg::ResetOptions
+        | Msg::Saver { .. }
+        | Msg::SetOptions { .. }
+        | Msg::KeyDown { .. }
+        | Msg::KeyRepeat { .. }
+        | Msg::KeyUp { .. }
+        | Msg::ButtonDown { .. }
+        | Msg::ButtonUp { .. }
+        | Msg::MoveBy { .. }
+        | Msg::Wheel { .. }
+        | Msg::BadVersion { .. }
+        | Msg::Busy
+        | Msg::Unknown
+        | Msg::Malformed
+        | Msg::Noop
+        | Msg::Info { .. }
+        | Msg::Alive
+        | Msg::Grab { .. }
+        | Msg::ClipPart { .. }
+        | Msg::FilePart { .. }
+        | Msg::DragInfo { .. } => false,
+    }
+}
+
+fn print_next<K: Sink>(alloc: Global, framer: &mut Framer, out: &mut K) -> Step
     requires { framer.old.limit ≡ 4194304 }
     ensures steps { Steps result framer.old framer.new (K.taken out.old) (K.taken out.new) }
     ensures counts { StepCounts result (K.faults out.old) (K.faults out.new) }
@@ -38,11 +72,14 @@ fn print_next<K: Sink>(framer: &mut Framer, out: &mut K) -> Step
         FrameStep::TooLong { place, len: _ } => Step::Ended(Status::NotYet { place }),
         FrameStep::Frame { place, body } => {
             let end = place + 4 + body.len() as u64;
-            match decode(End::Server, body) {
+            match decode(alloc, End::Server, body) {
                 Err(DecodeFault::OutOfMemory) => Step::Ended(Status::OutOfMemory),
                 Err(DecodeFault::Bad(_)) => Step::Ended(Status::NotYet { place }),
                 Ok(Msg::Bye) => Step::Ended(Status::Ok),
                 Ok(msg) => {
+                    if !is_read(&msg) {
+                        return Step::Ended(Status::NotYet { place });
+                    }
                     if write_all(out, printed(&msg).as_slice()) {
                         Step::Printed { end }
                     } else {
@@ -54,14 +91,14 @@ fn print_next<K: Sink>(framer: &mut Framer, out: &mut K) -> Step
     }
 }
 
-fn drain<K: Sink>(framer: &mut Framer, out: &mut K, end: &mut u64) -> Option<Status>
+fn drain<K: Sink>(alloc: Global, framer: &mut Framer, out: &mut K, end: &mut u64) -> Option<Status>
     requires limit { framer.old.limit ≡ 4194304 }
     requires end { end.old ≡ framer.old.given }
     ensures drains { Drains result framer.old framer.new end.new (K.taken out.old) (K.taken out.new) }
     ensures counts { DrainCounts result (K.faults out.old) (K.faults out.new) }
 {
     loop {
-        match print_next(framer, out) {
+        match print_next(alloc, framer, out) {
             Step::Printed { end: place } => *end = place,
             Step::More => return None,
             Step::Ended(status) => return Some(status),
@@ -72,7 +109,7 @@ fn drain<K: Sink>(framer: &mut Framer, out: &mut K, end: &mut u64) -> Option<Sta
 /// Reads frames of a server from `input`, and writes the line of each message to `out`.
 ///
 /// It ends as `Ok` at `CBYE`; as `NotYet` at the first frame that is too long, that none of the
-/// messages spells, or inside which the input ends; as `Lost(Ended)` where the input ends between
+/// messages read so far spells, or inside which the input ends; as `Lost(Ended)` where the input ends between
 /// frames; as `InputTooLong` where a byte after the first 1,073,741,824 was read. The lines of the
 /// messages before that are written, at `ReadFault` too; at `WriteFault` a front of them is.
 pub fn run_inject<S: Source, K: Sink>(alloc: Global, input: &mut S, out: &mut K) -> Status
@@ -97,7 +134,7 @@ pub fn run_inject<S: Source, K: Sink>(alloc: Global, input: &mut S, out: &mut K)
                 let Ok(()) = framer.feed(&buffer[..kept]) else {
                     return Status::OutOfMemory;
                 };
-                if let Some(status) = drain(&mut framer, out, &mut end) {
+                if let Some(status) = drain(alloc, &mut framer, out, &mut end) {
                     return status;
                 }
                 total += n;

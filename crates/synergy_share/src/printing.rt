@@ -31,7 +31,7 @@ pub fn printed(msg: &Msg) -> Lines
             put_i16(&mut line, y);
             line.extend(b"\n");
         }
-        Msg::Bye => {}
+        _ => {}
     }
     line
 }
