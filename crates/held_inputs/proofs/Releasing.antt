@@ -1,6 +1,6 @@
 -- The releases of a table, and of what is down.
-use Rattle.std.proofs.Common.{◌≡◌, ◌∙◌, ap, sym, subst, refl, inl, inr, ℕ, zero, suc, ◌+◌, ◌<◌, ◌≤◌, Bool, true, false, cond, List, [], ◌∷◌, ◌++◌, length, get_or, arith, map, replicate, append_assoc}
-use Rattle.std.specs.Prelude.{Option, None, Some, IsTrue, ◌↔◌, ◌==◌}
+use Rattle.std.proofs.Common.{◌≡◌, ◌∙◌, ap, sym, subst, refl, inl, inr, ℕ, zero, suc, ◌<◌, ◌≤◌, Bool, true, false, List, [], ◌∷◌, ◌++◌, length, get_or, arith, map, replicate, append_assoc}
+use Rattle.std.specs.Prelude.{None, IsTrue, ◌==◌}
 use Rattle.std.specs.List.{flat_map}
 use Rattle.std.proofs.lemmas.Bool.{cases_lt, eqb-true}
 use Rattle.std.proofs.lemmas.List.{append-nil}
@@ -10,19 +10,18 @@ use Rattle.held_inputs.specs.declared.line.Line.TheVariants.{Leave, ButtonUp}
 use Rattle.held_inputs.specs.declared.keys.HeldKey.{HeldKey}
 use Rattle.held_inputs.specs.declared.held.Held.{Held}
 use Rattle.held_inputs.specs.declared.injector.Injector.{Injector}
-use Rattle.message_codec.specs.declared.messages.Msg.{Msg}
 use Rattle.message_codec.specs.declared.messages.Msg.TheVariants as msg
 use Rattle.modifier_map.specs.declared.map.ModMap.{ModMap}
 use Rattle.held_inputs.specs.Line.{line_of}
-use Rattle.held_inputs.specs.Down.{last_where, down, is_button_down, reach, held_one, keys_below, buttons_below, held_keys, held_buttons, up_of, releases}
-use Rattle.held_inputs.specs.Screen.{Screen, Call, Applies, ReleasesAll, after, screen}
+use Rattle.held_inputs.specs.Down.{last_where, down, is_button_down, reach, keys_below, buttons_below, held_keys, held_buttons, up_of, releases}
+use Rattle.held_inputs.specs.Screen.{Screen, Call, Applies, ReleasesAll}
 use Rattle.held_inputs.specs.Table.{found, places}
 use Rattle.held_inputs.specs.Balanced.{NothingDown}
 use Rattle.held_inputs.specs.Stands.{AllUp, Stands, StandsFor, Tells, Prints}
 use Rattle.held_inputs.proofs.Looking.{button_past}
 use Rattle.held_inputs.proofs.Clearing.{cleared}
 use Rattle.held_inputs.proofs.Tables.{found-held_keys}
-use Rattle.held_inputs.proofs.Standing.{stands-plain, with_line}
+use Rattle.held_inputs.proofs.Standing.{stands-plain}
 
 places-below : (table : List Bool) (lines : List Line) → ((b : ℕ) → get_or table b false ≡ is_button_down lines b) → (n : ℕ) → places table n ≡ buttons_below lines n
 unfolding places buttons_below

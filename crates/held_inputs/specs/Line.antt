@@ -4,12 +4,9 @@ use Rattle.std.specs.List.{flat_map}
 use Rattle.std.specs.Fmt.{decimal, signed_decimal}
 use Rattle.std.specs.Int.{w32, to_be_bytes}
 use Rattle.share_base.specs.Clips.{clip_number}
+use Rattle.message_codec.specs.Showing.{hex, after_blank}
 use Rattle.held_inputs.specs.declared.line.Line.{Line}
 use Rattle.held_inputs.specs.declared.line.Line.TheVariants.{Enter, Leave, KeyDown, KeyRepeat, KeyUp, ButtonDown, ButtonUp, MoveTo, MoveBy, Wheel, SaverOn, SaverOff, ResetOptions, SetOption, Grab, Clip}
-use Rattle.held_inputs.specs.Hex.{hex}
-
-abbrev pub after_blank : List ℕ → List ℕ
-after_blank field = 32 ∷ field
 
 -- the words that a line begins with, then each field after a blank, then a newline
 abbrev pub text : List ℕ → List (List ℕ) → List ℕ

@@ -2,7 +2,6 @@
 use Rattle.std.specs.Prelude.{ℕ, List, [], ◌∷◌, ◌++◌, length, Option, None, Some, Bool, true, false, cond, ◌==◌, ltb}
 use Rattle.std.specs.Option.{option_map}
 use Rattle.share_base.specs.declared.numbers.KeyId.{KeyId}
-use Rattle.share_base.specs.declared.numbers.Mask.{Mask}
 use Rattle.message_codec.specs.declared.messages.Msg.{Msg}
 use Rattle.message_codec.specs.declared.messages.Msg.TheVariants as msg
 use Rattle.modifier_map.specs.Map.{key_under, mask_under, changed, identity}

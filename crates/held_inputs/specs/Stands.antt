@@ -1,5 +1,5 @@
 -- What an injector keeps of a screen, and what its calls tell.
-use Rattle.std.specs.Prelude.{◌≡◌, ℕ, List, [], Bool, false, slice_index_or}
+use Rattle.std.specs.Prelude.{◌≡◌, ℕ, List, [], false, slice_index_or}
 use Rattle.std.specs.List.{flat_map}
 use Rattle.modifier_map.specs.declared.map.ModMap.{ModMap}
 use Rattle.held_inputs.specs.declared.line.Line.{Line}

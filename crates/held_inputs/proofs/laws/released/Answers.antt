@@ -1,4 +1,3 @@
-use Rattle.held_inputs.specs.Screen.{Call, ReleasesAll}
 use Rattle.held_inputs.proofs.Histories.{balanced, nothing_left, good-screen, screen-grows}
 use Rattle.held_inputs.proofs.laws.released.Goals as goal
 
