@@ -8,3 +8,4 @@ pub mod Releasing
 pub mod WordsApart
 pub mod LineTexts
 pub mod Rows
+pub mod Plain

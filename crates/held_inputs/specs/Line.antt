@@ -1,5 +1,5 @@
 -- The text of each line that a screen prints.
-use Rattle.std.specs.Prelude.{ℕ, ◌+◌, ◌*◌, List, [], ◌∷◌, ◌++◌, length, codes}
+use Rattle.std.specs.Prelude.{ℕ, ◌+◌, ◌*◌, ◌≤◌, List, [], ◌∷◌, ◌++◌, length, codes}
 use Rattle.std.specs.List.{flat_map}
 use Rattle.std.specs.Fmt.{decimal, signed_decimal}
 use Rattle.std.specs.Int.{w32, to_be_bytes}
@@ -48,3 +48,7 @@ room_of ResetOptions = 14
 room_of (SetOption code value) = 28
 room_of (Grab clip) = 11
 room_of (Clip clip bytes) = 2 * length bytes + 13
+
+-- every line of one message but those of a leaving is so short
+abbrev pub IsShort : Line → Type 0
+IsShort line = room_of line ≤ 37
