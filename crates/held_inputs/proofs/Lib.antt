@@ -4,6 +4,7 @@ pub mod Clearing
 pub mod Histories
 pub mod Tables
 pub mod Standing
+pub mod Ranging
 pub mod Releasing
 pub mod WordsApart
 pub mod LineTexts

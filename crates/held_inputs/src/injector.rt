@@ -5,6 +5,7 @@ ghost use Rattle.std.specs.List.{flat_map};
 ghost use Rattle.std.specs.Option.{option_to_list, ForSome};
 ghost use Rattle.message_codec.specs.declared.messages.Msg.TheVariants as message;
 ghost use Rattle.held_inputs.specs.Line.{line_of, IsShort};
+ghost use Rattle.held_inputs.specs.Ranges.{Fits};
 ghost use Rattle.held_inputs.specs.Balanced.{NothingDown};
 ghost use Rattle.held_inputs.specs.Screen.{Screen, Applies, SetsOption, ResetsOptions, ReleasesAll, after, meant_id, meant_mask, saver_line};
 ghost use Rattle.held_inputs.specs.Stands.{Stands, StandsFor, Tells, Prints};
@@ -100,6 +101,7 @@ impl Injector {
     fn enter(&mut self, x: i16, y: i16, seq: u32, mask: u16) -> Option<Line>
         ensures tells { Tells self.old self.new (Applies (message.Enter x y seq mask)) (option_to_list result) }
         ensures short { IfSome result IsShort }
+        ensures fits { IfSome result Fits }
     {
         let mask = self.meant_mask(mask);
         Some(Line::Enter { x, y, seq, mask })
@@ -117,6 +119,7 @@ impl Injector {
     fn press(&mut self, id: u16, mask: u16, button: u16) -> Option<Line>
         ensures tells { Tells self.old self.new (Applies (message.KeyDown id mask button)) (option_to_list result) }
         ensures short { IfSome result IsShort }
+        ensures fits { IfSome result Fits }
     {
         let mask = self.meant_mask(mask);
         if let Some(id) = self.held.id(button) {
@@ -138,6 +141,7 @@ impl Injector {
     fn repeat(&mut self, mask: u16, count: u16, button: u16) -> Option<Line>
         ensures tells { (id : ℕ) → Tells self.old self.new (Applies (message.KeyRepeat id mask count button)) (option_to_list result) }
         ensures short { IfSome result IsShort }
+        ensures fits { IfSome result Fits }
     {
         let mask = self.meant_mask(mask);
         let id = self.held.id(button)?;
@@ -152,6 +156,7 @@ impl Injector {
     fn lift(&mut self, button: u16) -> Option<Line>
         ensures tells { (id mask : ℕ) → Tells self.old self.new (Applies (message.KeyUp id mask button)) (option_to_list result) }
         ensures short { IfSome result IsShort }
+        ensures fits { IfSome result Fits }
     {
         let id = self.held.id(button)?;
         self.held.lift(button);
@@ -161,6 +166,7 @@ impl Injector {
     fn push(&mut self, b: u8) -> Option<Line>
         ensures tells { Tells self.old self.new (Applies (message.ButtonDown b)) (option_to_list result) }
         ensures short { IfSome result IsShort }
+        ensures fits { IfSome result Fits }
     {
         if self.held.is_button_down(b) {
             return None;
@@ -172,6 +178,7 @@ impl Injector {
     fn let_go(&mut self, b: u8) -> Option<Line>
         ensures tells { Tells self.old self.new (Applies (message.ButtonUp b)) (option_to_list result) }
         ensures short { IfSome result IsShort }
+        ensures fits { IfSome result Fits }
     {
         if !self.held.is_button_down(b) {
             return None;
