@@ -1,13 +1,13 @@
 -- Lines each of which may stand after those before it.
-use Rattle.std.proofs.Common.{◌≡◌, ◌∙◌, ap, sym, subst, refl, inl, inr, ℕ, zero, suc, ◌+◌, ◌<◌, ◌≤◌, Bool, true, false, cond, List, [], ◌∷◌, ◌++◌, map, take, arith, append_assoc}
-use Rattle.std.specs.Prelude.{Option, None, Some, ◌==◌, ◌⊎◌, slice_get}
+use Rattle.std.proofs.Common.{◌≡◌, ◌∙◌, ap, sym, subst, refl, inl, inr, ℕ, zero, suc, Bool, true, false, List, [], ◌∷◌, ◌++◌, map, take, append_assoc}
+use Rattle.std.specs.Prelude.{Option, None, Some, ◌⊎◌, slice_get}
 use Rattle.std.specs.List.{filter, flat_map}
-use Rattle.std.proofs.lemmas.Bool.{eq-eqb, ne_eqb}
+use Rattle.std.proofs.lemmas.Bool.{eq-eqb}
 use Rattle.std.proofs.lemmas.Bool.Decides.{eqb_tells}
 use Rattle.std.proofs.lemmas.List.{append-nil, map-append}
 use Rattle.std.proofs.lemmas.List.Concat.{flat_map-append}
 use Rattle.held_inputs.specs.declared.line.Line.{Line}
-use Rattle.held_inputs.specs.declared.line.Line.TheVariants.{Enter, Leave, KeyDown, KeyRepeat, KeyUp, ButtonDown, ButtonUp}
+use Rattle.held_inputs.specs.declared.line.Line.TheVariants.{Leave, KeyDown, KeyRepeat, KeyUp, ButtonDown, ButtonUp}
 use Rattle.held_inputs.specs.Down.{names_key, names_button, down, is_button_down}
 use Rattle.held_inputs.specs.Balanced.{Again, Press, repeat_of, press_lines, clicks, NothingDown, ClearAtLeaves}
 use Rattle.held_inputs.proofs.Looking.{filter-snoc, down-other, down-press, down-rep, down-up, button-other, button-press, button-lift}

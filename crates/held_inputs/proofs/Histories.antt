@@ -1,5 +1,5 @@
 -- What a screen prints may stand where it is printed, so the lines of any calls are good.
-use Rattle.std.proofs.Common.{◌≡◌, ap, sym, subst, refl, ℕ, Bool, true, false, cond, List, [], ◌∷◌, ◌++◌, append_assoc}
+use Rattle.std.proofs.Common.{◌≡◌, sym, subst, refl, ℕ, Bool, true, false, cond, List, [], ◌∷◌, ◌++◌, append_assoc}
 use Rattle.std.specs.Prelude.{Option, None, Some, ◌==◌}
 use Rattle.std.specs.List.{filter}
 use Rattle.std.proofs.lemmas.List.{append-nil}
@@ -9,8 +9,8 @@ use Rattle.modifier_map.specs.declared.map.ModMap.{ModMap}
 use Rattle.held_inputs.specs.declared.line.Line.{Line}
 use Rattle.held_inputs.specs.declared.line.Line.TheVariants.{Enter, Leave, KeyDown, KeyRepeat, KeyUp, ButtonDown, ButtonUp, MoveTo, MoveBy, Wheel, SaverOn, SaverOff}
 use Rattle.held_inputs.specs.Down.{last_where, names_key, names_button, down, is_button_down, releases}
-use Rattle.held_inputs.specs.Screen.{Screen, Call, Applies, SetsOption, ResetsOptions, ReleasesAll, first_press, press, repeat, lift, saver_line, applied, lines_of, after, screen_from, screen, meant_id, meant_mask}
-use Rattle.held_inputs.specs.Balanced.{Balanced, NothingDown, ClearAtLeaves}
+use Rattle.held_inputs.specs.Screen.{Screen, Call, Applies, SetsOption, ResetsOptions, ReleasesAll, first_press, press, repeat, lift, applied, after, screen_from, screen, meant_id, meant_mask}
+use Rattle.held_inputs.specs.Balanced.{Balanced, NothingDown}
 use Rattle.held_inputs.proofs.Good.{Good, Open, Half, good-step}
 use Rattle.held_inputs.proofs.Clearing.{cleared, good-releases}
 

@@ -1,13 +1,13 @@
 -- Looking back after one more line.
-use Rattle.std.proofs.Common.{◌≡◌, ◌∙◌, ap, sym, refl, ℕ, zero, suc, ◌+◌, ◌<◌, ◌≤◌, Bool, true, false, cond, List, [], ◌∷◌, ◌++◌, arith}
-use Rattle.std.specs.Prelude.{Option, None, Some, ◌==◌}
+use Rattle.std.proofs.Common.{◌≡◌, ◌∙◌, ap, refl, ℕ, ◌≤◌, Bool, true, false, cond, List, [], ◌∷◌, ◌++◌, arith}
+use Rattle.std.specs.Prelude.{Option, None, Some}
 use Rattle.std.specs.List.{filter}
 use Rattle.std.proofs.lemmas.Bool.{eq-eqb, ne_eqb}
 use Rattle.std.proofs.lemmas.List.{append-nil}
 use Rattle.std.proofs.lemmas.List.Elements.{filter-append}
 use Rattle.held_inputs.specs.declared.line.Line.{Line}
-use Rattle.held_inputs.specs.declared.line.Line.TheVariants.{Enter, Leave, KeyDown, KeyRepeat, KeyUp, ButtonDown, ButtonUp}
-use Rattle.held_inputs.specs.Down.{last_where, or_else, names_key, presses_key, names_button, leaves_down, id_in, down, is_button_down, above, reach}
+use Rattle.held_inputs.specs.declared.line.Line.TheVariants.{KeyDown, KeyRepeat, KeyUp, ButtonDown, ButtonUp}
+use Rattle.held_inputs.specs.Down.{last_where, or_else, names_key, presses_key, names_button, down, is_button_down, above, reach}
 
 pub last-snoc : {X : Type 0} (test : X → Bool) (xs : List X) (x : X) → last_where test (xs ++ x ∷ []) ≡ cond (test x) (Some x) (last_where test xs)
 unfolding last_where

@@ -1,7 +1,8 @@
 -- The releases of a table, and of what is down.
-use Rattle.std.proofs.Common.{◌≡◌, ◌∙◌, ap, sym, subst, refl, inl, inr, ℕ, zero, suc, ◌+◌, ◌<◌, ◌≤◌, Bool, true, false, cond, List, [], ◌∷◌, ◌++◌, length, get_or, arith, map, replicate, append_assoc}
-use Rattle.std.specs.Prelude.{Option, None, Some, IsTrue, ◌↔◌, ◌==◌}
-use Rattle.std.specs.List.{flat_map}
+use Rattle.std.proofs.Common.{◌≡◌, ◌∙◌, ap, sym, subst, refl, inl, inr, ℕ, zero, suc, ◌<◌, ◌≤◌, Bool, true, false, List, [], ◌∷◌, ◌++◌, length, get_or, arith, map, replicate, append_assoc}
+use Rattle.std.specs.Prelude.{None, IsTrue, ◌==◌, Option, IfSome}
+use Rattle.std.specs.List.{flat_map, AllByRecursion}
+use Rattle.std.specs.Option.{option_to_list}
 use Rattle.std.proofs.lemmas.Bool.{cases_lt, eqb-true}
 use Rattle.std.proofs.lemmas.List.{append-nil}
 use Rattle.std.proofs.lemmas.List.Concat.{flat_map-append}
@@ -10,19 +11,20 @@ use Rattle.held_inputs.specs.declared.line.Line.TheVariants.{Leave, ButtonUp}
 use Rattle.held_inputs.specs.declared.keys.HeldKey.{HeldKey}
 use Rattle.held_inputs.specs.declared.held.Held.{Held}
 use Rattle.held_inputs.specs.declared.injector.Injector.{Injector}
-use Rattle.message_codec.specs.declared.messages.Msg.{Msg}
 use Rattle.message_codec.specs.declared.messages.Msg.TheVariants as msg
 use Rattle.modifier_map.specs.declared.map.ModMap.{ModMap}
 use Rattle.held_inputs.specs.Line.{line_of}
-use Rattle.held_inputs.specs.Down.{last_where, down, is_button_down, reach, held_one, keys_below, buttons_below, held_keys, held_buttons, up_of, releases}
-use Rattle.held_inputs.specs.Screen.{Screen, Call, Applies, ReleasesAll, after, screen}
+use Rattle.held_inputs.specs.Ranges.{Fits}
+use Rattle.held_inputs.specs.Down.{last_where, down, is_button_down, reach, keys_below, buttons_below, held_keys, held_buttons, up_of, releases}
+use Rattle.held_inputs.specs.Screen.{Screen, Call, Applies, ReleasesAll}
 use Rattle.held_inputs.specs.Table.{found, places}
 use Rattle.held_inputs.specs.Balanced.{NothingDown}
 use Rattle.held_inputs.specs.Stands.{AllUp, Stands, StandsFor, Tells, Prints}
 use Rattle.held_inputs.proofs.Looking.{button_past}
 use Rattle.held_inputs.proofs.Clearing.{cleared}
+use Rattle.held_inputs.proofs.Ranging.{fit-append, fit-one, fit-places}
 use Rattle.held_inputs.proofs.Tables.{found-held_keys}
-use Rattle.held_inputs.proofs.Standing.{stands-plain, with_line}
+use Rattle.held_inputs.proofs.Standing.{stands-plain}
 
 places-below : (table : List Bool) (lines : List Line) → ((b : ℕ) → get_or table b false ≡ is_button_down lines b) → (n : ℕ) → places table n ≡ buttons_below lines n
 unfolding places buttons_below
@@ -71,9 +73,9 @@ fresh m h k e = record {
   mods = refl;
 }
 
-pub released-prints : (i new : Injector) (bytes : List ℕ) → bytes ≡ flat_map line_of (map up_of i.held.keys) ++ flat_map line_of (map ButtonUp (places i.held.buttons (length i.held.buttons))) → new.held.keys ≡ [] → new.held.buttons ≡ replicate 256 false → new.mods ≡ i.mods → Prints i new ReleasesAll bytes
+pub released-prints : (i new : Injector) (bytes : List ℕ) → bytes ≡ flat_map line_of (map up_of i.held.keys) ++ flat_map line_of (map ButtonUp (places i.held.buttons (length i.held.buttons))) → AllByRecursion Fits (map up_of i.held.keys) → length i.held.buttons ≤ 256 → new.held.keys ≡ [] → new.held.buttons ≡ replicate 256 false → new.mods ≡ i.mods → Prints i new ReleasesAll bytes
 unfolding releases
-released-prints i new bytes e k t m = record {
+released-prints i new bytes e f few k t m = record {
   stands = λ s h.
       let none : NothingDown (s.lines ++ releases s.lines) = cleared s.lines in record {
         keys = k ∙ sym (none-held (s.lines ++ releases s.lines) none.keys);
@@ -81,6 +83,7 @@ released-prints i new bytes e k t m = record {
         mods = m ∙ h.mods;
       };
   gives = λ s h. rw (e, h.keys, places-are i.held.buttons s.lines h.buttons) (sym (flat_map-append line_of (map up_of (held_keys s.lines)) (map ButtonUp (held_buttons s.lines))));
+  fits = λ s h. fit-append (map up_of (held_keys s.lines)) (map ButtonUp (held_buttons s.lines)) (rw h.keys at f) (rw (places-are i.held.buttons s.lines h.buttons) at (fit-places i.held.buttons (length i.held.buttons) few));
 }
 
 pub leave-prints : (i new : Injector) (mid bytes : List ℕ) → Prints i new ReleasesAll mid → bytes ≡ mid ++ line_of Leave → Prints i new (Applies msg.Leave) bytes
@@ -88,12 +91,14 @@ leave-prints i new mid bytes p e = record {
   stands = λ s h. subst (λ (t : List Line). Stands new (record { lines = t; mods = s.mods })) (append_assoc s.lines (releases s.lines) (Leave ∷ []))
       (stands-plain new (record { lines = s.lines ++ releases s.lines; mods = s.mods }) Leave (λ b. refl) (λ b. refl) (p.stands s h));
   gives = λ s h. e ∙ ap (λ (t : List ℕ). t ++ line_of Leave) (p.gives s h) ∙ sym (flat_map-append line_of (releases s.lines) (Leave ∷ []));
+  fits = λ s h. fit-append (releases s.lines) (Leave ∷ []) (p.fits s h) (tt, tt);
 }
 
-pub tells-prints : (i new : Injector) (call : Call) (lines : List Line) (bytes : List ℕ) → Tells i new call lines → bytes ≡ flat_map line_of lines → Prints i new call bytes
-tells-prints i new call lines bytes t e = record {
+pub tells-prints : (i new : Injector) (call : Call) (o : Option Line) (bytes : List ℕ) → Tells i new call (option_to_list o) → IfSome o Fits → bytes ≡ flat_map line_of (option_to_list o) → Prints i new call bytes
+tells-prints i new call o bytes t f e = record {
   stands = t.stands;
   gives = λ s h. e ∙ ap (λ (ls : List Line). flat_map line_of ls) (t.gives s h);
+  fits = λ s h. subst (AllByRecursion Fits) (t.gives s h) (fit-one o f);
 }
 
 -- the tables are clear exactly where nothing is down

@@ -1,13 +1,12 @@
 -- Screens worked out by hand.
 use Rattle.std.proofs.Common.{◌≡◌, refl, List, [], ◌∷◌}
 use Rattle.std.specs.Prelude.{pos}
-use Rattle.message_codec.specs.declared.messages.Msg.{Msg}
 use Rattle.message_codec.specs.declared.messages.Msg.TheVariants as msg
 use Rattle.modifier_map.specs.Map.{identity}
 use Rattle.held_inputs.specs.declared.line.Line.{Line}
 use Rattle.held_inputs.specs.declared.line.Line.TheVariants.{Enter, Leave, KeyDown, KeyRepeat, KeyUp, ButtonDown, ButtonUp}
 use Rattle.held_inputs.specs.Down.{last_where, down, is_button_down, reach, keys_below, buttons_below, held_keys, held_buttons, releases}
-use Rattle.held_inputs.specs.Screen.{Call, Applies, SetsOption, ResetsOptions, ReleasesAll, meant_id, meant_mask, screen}
+use Rattle.held_inputs.specs.Screen.{Call, Applies, SetsOption, ReleasesAll, meant_id, meant_mask, screen}
 
 -- the lines of calls, from the identity on
 abbrev lines_after : List Call → List Line

@@ -1,25 +1,21 @@
 -- How an injector stands after each way that a call can go.
-use Rattle.std.proofs.Common.{◌≡◌, ◌∙◌, ap, sym, subst, refl, inl, inr, ℕ, zero, suc, ◌+◌, ◌<◌, ◌≤◌, Bool, true, false, cond, List, [], ◌∷◌, ◌++◌, length, get_or, arith, map, replicate}
-use Rattle.std.specs.Prelude.{ℤ, Option, None, Some, ◌==◌, ltb, slice_set}
-use Rattle.std.proofs.lemmas.Bool.{eq-eqb, ne_eqb, ltb-true, ltb-false, lt-ltb, le-ltb, cases_Bool, cases_lt}
+use Rattle.std.proofs.Common.{◌≡◌, ◌∙◌, ap, sym, subst, refl, inl, inr, ℕ, ◌<◌, ◌≤◌, Bool, true, false, cond, List, [], ◌∷◌, ◌++◌, length, get_or}
+use Rattle.std.specs.Prelude.{ℤ, Option, None, Some, ◌==◌, slice_set}
+use Rattle.std.proofs.lemmas.Bool.{lt-ltb, le-ltb}
 use Rattle.std.proofs.lemmas.Bool.Decides.{eqb_tells}
-use Rattle.std.proofs.lemmas.List.{append-nil, get_or-set_same, get_or-set_other, get_or-replicate}
+use Rattle.std.proofs.lemmas.List.{append-nil, get_or-set_same, get_or-set_other}
 use Rattle.held_inputs.specs.declared.line.Line.{Line}
 use Rattle.held_inputs.specs.declared.line.Line.TheVariants.{Enter, KeyDown, KeyRepeat, KeyUp, ButtonDown, ButtonUp, MoveTo, MoveBy, Wheel, SaverOn, SaverOff}
 use Rattle.message_codec.specs.declared.messages.Msg.{Msg}
 use Rattle.message_codec.specs.declared.messages.Msg.TheVariants as msg
-use Rattle.modifier_map.specs.declared.map.ModMap.{ModMap}
 use Rattle.held_inputs.specs.declared.keys.HeldKey.{HeldKey}
-use Rattle.held_inputs.specs.declared.held.Held.{Held}
 use Rattle.held_inputs.specs.declared.injector.Injector.{Injector}
-use Rattle.held_inputs.specs.Down.{last_where, names_key, names_button, down, is_button_down, reach, keys_below, buttons_below, held_keys, held_buttons, up_of, releases}
-use Rattle.held_inputs.specs.Screen.{Screen, Call, Applies, SetsOption, ResetsOptions, ReleasesAll, first_press, press, repeat, lift, applied, saver_line, lines_of, after, screen, meant_id, meant_mask}
-use Rattle.held_inputs.specs.Table.{found, inserted, removed, places}
-use Rattle.held_inputs.specs.Balanced.{NothingDown}
-use Rattle.held_inputs.specs.Stands.{Stands, StandsFor, Tells, Prints}
-use Rattle.held_inputs.proofs.Looking.{down-other, down-rep, button-other, button-press, button-lift, button_past}
-use Rattle.held_inputs.proofs.Clearing.{cleared}
-use Rattle.held_inputs.proofs.Tables.{found-held_keys, held_keys-along, held_keys-press, held_keys-lift, held_keys-agree}
+use Rattle.held_inputs.specs.Down.{names_key, names_button, down, is_button_down}
+use Rattle.held_inputs.specs.Screen.{Screen, Applies, first_press, applied, saver_line, meant_id, meant_mask}
+use Rattle.held_inputs.specs.Table.{found, inserted, removed}
+use Rattle.held_inputs.specs.Stands.{Stands, Tells}
+use Rattle.held_inputs.proofs.Looking.{down-other, down-rep, button-other, button-press, button-lift}
+use Rattle.held_inputs.proofs.Tables.{found-held_keys, held_keys-along, held_keys-press, held_keys-lift}
 
 -- what the table says is down, is
 is-down : (i : Injector) (s : Screen) (b : ℕ) (o : Option ℕ) → Stands i s → o ≡ found i.held.keys b → down s.lines b ≡ o

@@ -1,15 +1,15 @@
 -- The table by places, as the code has it, and against what is down.
-use Rattle.std.proofs.Common.{◌≡◌, ◌∙◌, ap, sym, subst, refl, inl, inr, ℕ, zero, suc, ◌+◌, ◌<◌, ◌≤◌, ◌≢◌, Bool, true, false, cond, List, [], ◌∷◌, ◌++◌, length, get_or, take, drop, max, arith, append_assoc}
-use Rattle.std.specs.Prelude.{Option, None, Some, ◌==◌, ltb, insert, remove}
-use Rattle.std.proofs.lemmas.Bool.{eq-eqb, ne_eqb, ltb-true, ltb-false, lt-ltb, le-ltb, cases_Bool, cases_lt}
+use Rattle.std.proofs.Common.{◌≡◌, ◌∙◌, ap, sym, subst, refl, inl, inr, ℕ, zero, suc, ◌<◌, ◌≤◌, ◌≢◌, List, [], ◌∷◌, ◌++◌, length, get_or, max, arith}
+use Rattle.std.specs.Prelude.{Option, None, Some, ltb, insert, remove}
+use Rattle.std.proofs.lemmas.Bool.{eq-eqb, ne_eqb, lt-ltb, le-ltb, cases_Bool, cases_lt}
 use Rattle.std.proofs.lemmas.Bool.Decides.{eqb_tells}
 use Rattle.std.proofs.lemmas.List.{append-nil}
 use Rattle.held_inputs.specs.declared.keys.HeldKey.{HeldKey}
 use Rattle.held_inputs.specs.declared.line.Line.{Line}
-use Rattle.held_inputs.specs.declared.line.Line.TheVariants.{Enter, Leave, KeyDown, KeyRepeat, KeyUp, ButtonDown, ButtonUp}
-use Rattle.held_inputs.specs.Down.{names_key, down, reach, above, held_one, keys_below, held_keys}
+use Rattle.held_inputs.specs.declared.line.Line.TheVariants.{KeyDown, KeyUp}
+use Rattle.held_inputs.specs.Down.{down, reach, held_one, keys_below, held_keys}
 use Rattle.held_inputs.specs.Table.{place, found, inserted, removed}
-use Rattle.held_inputs.proofs.Looking.{down-other, down-press, down-rep, down-up, down_past}
+use Rattle.held_inputs.proofs.Looking.{down-other, down-press, down-up, down_past}
 
 pub found-past : (ks : List HeldKey) (b : ℕ) → length ks ≤ place ks b → found ks b ≡ None
 found-past [] b h = refl

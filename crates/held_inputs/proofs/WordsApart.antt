@@ -1,16 +1,16 @@
 -- The words of a text are found again, since each byte of them is above the blank.
 use Rattle.std.proofs.Common.{◌≡◌, ◌∙◌, ap, sym, refl, ℕ, suc, ◌+◌, ◌<◌, ◌≤◌, ◌^◌, ◌/◌, ◌%◌, List, [], ◌∷◌, ◌++◌, append_assoc, arith}
-use Rattle.std.specs.Prelude.{ℤ, pos, negsuc, codes, Bool, true, false, ltb, ◌&&◌, FitsSigned}
+use Rattle.std.specs.Prelude.{ℤ, pos, negsuc, Bool, true, ltb, ◌&&◌, FitsSigned}
 use Rattle.std.specs.Int.{w16}
 use Rattle.std.specs.Int.Signed.{mag}
-use Rattle.std.specs.Fmt.{decimal, signed_decimal, digit_glyph}
+use Rattle.std.specs.Fmt.{decimal, signed_decimal}
 use Rattle.std.specs.List.{flat_map, AllByRecursion}
 use Rattle.std.proofs.lemmas.Fmt.{decimal_by_steps}
 use Rattle.std.proofs.lemmas.Bool.{and_parts, ltb-true}
 use Rattle.std.proofs.lemmas.Bool.Decides.{nat_tests}
 use Rattle.std.proofs.lemmas.List.{append-nil}
-use Rattle.held_inputs.specs.Line.{text, after_blank}
-use Rattle.held_inputs.specs.Hex.{hex, hex_pair}
+use Rattle.held_inputs.specs.Line.{text}
+use Rattle.message_codec.specs.Showing.{hex, hex_pair, hex_digit, after_blank}
 
 -- every byte is above the blank
 abbrev pub Dark : List ℕ → Type 0
@@ -37,12 +37,12 @@ pub dark-signed : (z : ℤ) → mag z < 2 ^ 15 → Dark (signed_decimal z)
 dark-signed (pos n) h = dark-decimal n (omega arith)
 dark-signed (negsuc n) h = (omega arith, dark-decimal (suc n) (omega arith))
 
-dark-glyph : (d : ℕ) → 32 < digit_glyph false d
-dark-glyph d = grind (arith, nat_tests)
+dark-digit : (d : ℕ) → 32 < hex_digit d
+dark-digit d = grind (arith, nat_tests)
 
 dark-pairs : (bytes : List ℕ) → Dark (flat_map hex_pair bytes)
 dark-pairs [] = tt
-dark-pairs (b ∷ bs) = (dark-glyph (b / 16), (dark-glyph (b % 16), dark-pairs bs))
+dark-pairs (b ∷ bs) = (dark-digit (b / 16), (dark-digit (b % 16), dark-pairs bs))
 
 pub dark-hex : (bytes : List ℕ) → Dark (hex bytes)
 dark-hex [] = (omega arith, tt)
@@ -89,8 +89,8 @@ words-apart v w (u ∷ vs) (t ∷ ws) x y dv dw dvs dws e =
 
 -- Bytes are found again in their digits
 
-glyph-injective : (a b : ℕ) → digit_glyph false a ≡ digit_glyph false b → a < 16 → b < 16 → a ≡ b
-glyph-injective a b e p q = grind (arith, nat_tests)
+digit-injective : (a b : ℕ) → hex_digit a ≡ hex_digit b → a < 16 → b < 16 → a ≡ b
+digit-injective a b e p q = grind (arith, nat_tests)
 
 pairs-injective : (a b : List ℕ) → AllByRecursion (λ byte. byte < 2 ^ 8) a → AllByRecursion (λ byte. byte < 2 ^ 8) b → flat_map hex_pair a ≡ flat_map hex_pair b → a ≡ b
 pairs-injective [] [] p q e = refl
@@ -99,19 +99,19 @@ pairs-injective (x ∷ a) [] p q e = absurd (let f : ⊥ = cc in f)
 pairs-injective (x ∷ a) (y ∷ b) p q e =
     let low : x < 2 ^ 8 = p.0 in
     let low' : y < 2 ^ 8 = q.0 in
-    let h : digit_glyph false (x / 16) ≡ digit_glyph false (y / 16) = cc in
-    let l : digit_glyph false (x % 16) ≡ digit_glyph false (y % 16) = cc in
+    let h : hex_digit (x / 16) ≡ hex_digit (y / 16) = cc in
+    let l : hex_digit (x % 16) ≡ hex_digit (y % 16) = cc in
     let r : flat_map hex_pair a ≡ flat_map hex_pair b = cc in
-    let u : x / 16 ≡ y / 16 = glyph-injective (x / 16) (y / 16) h (omega arith) (omega arith) in
-    let v : x % 16 ≡ y % 16 = glyph-injective (x % 16) (y % 16) l (omega arith) (omega arith) in
+    let u : x / 16 ≡ y / 16 = digit-injective (x / 16) (y / 16) h (omega arith) (omega arith) in
+    let v : x % 16 ≡ y % 16 = digit-injective (x % 16) (y % 16) l (omega arith) (omega arith) in
     let s : x ≡ y = omega arith in
     rw (s, pairs-injective a b p.1 q.1 r) refl
 
-no_dash : (d : ℕ) → digit_glyph false d ≡ 45 → ⊥
+no_dash : (d : ℕ) → hex_digit d ≡ 45 → ⊥
 no_dash d e = grind (arith, nat_tests)
 
 pub hex-injective : (a b : List ℕ) → AllByRecursion (λ byte. byte < 2 ^ 8) a → AllByRecursion (λ byte. byte < 2 ^ 8) b → hex a ≡ hex b → a ≡ b
 hex-injective [] [] p q e = refl
-hex-injective [] (y ∷ b) p q e = absurd (no_dash (y / 16) (let f : digit_glyph false (y / 16) ≡ 45 = cc in f))
-hex-injective (x ∷ a) [] p q e = absurd (no_dash (x / 16) (let f : digit_glyph false (x / 16) ≡ 45 = cc in f))
+hex-injective [] (y ∷ b) p q e = absurd (no_dash (y / 16) (let f : hex_digit (y / 16) ≡ 45 = cc in f))
+hex-injective (x ∷ a) [] p q e = absurd (no_dash (x / 16) (let f : hex_digit (x / 16) ≡ 45 = cc in f))
 hex-injective (x ∷ a) (y ∷ b) p q e = pairs-injective (x ∷ a) (y ∷ b) p q e

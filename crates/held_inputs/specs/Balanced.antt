@@ -1,5 +1,5 @@
 -- Lines that leave nothing down.
-use Rattle.std.specs.Prelude.{◌≡◌, ℕ, zero, suc, List, [], ◌∷◌, ◌++◌, map, take, Option, None, Some, false, slice_get}
+use Rattle.std.specs.Prelude.{◌≡◌, ℕ, zero, suc, List, [], ◌∷◌, ◌++◌, map, take, None, Some, false, slice_get}
 use Rattle.std.specs.List.{filter, flat_map}
 use Rattle.held_inputs.specs.declared.line.Line.{Line}
 use Rattle.held_inputs.specs.declared.line.Line.TheVariants.{Leave, KeyDown, KeyRepeat, KeyUp, ButtonDown, ButtonUp}

@@ -1,7 +1,7 @@
 -- What is down after lines were printed, found by looking back over them.
 use Rattle.std.specs.Prelude.{ℕ, ◌+◌, max, List, [], ◌∷◌, ◌++◌, map, Option, None, Some, Bool, true, false, cond, ◌==◌, suc, zero}
 use Rattle.held_inputs.specs.declared.line.Line.{Line}
-use Rattle.held_inputs.specs.declared.line.Line.TheVariants.{KeyDown, KeyRepeat, KeyUp, ButtonDown, ButtonUp}
+use Rattle.held_inputs.specs.declared.line.Line.TheVariants.{KeyDown, KeyRepeat, KeyUp, ButtonDown, ButtonUp, ResetOptions, SetOption, Grab, Clip}
 use Rattle.held_inputs.specs.declared.keys.HeldKey.{HeldKey}
 
 abbrev pub or_else : {X : Type 0} → Option X → Option X → Option X
@@ -30,6 +30,14 @@ abbrev pub names_button : ℕ → Line → Bool
 names_button b (ButtonDown button) = button == b
 names_button b (ButtonUp button) = button == b
 names_button b _ = false
+
+-- a line of options or of clipboards, which names no key and no button
+abbrev pub IsPlain : Line → Type 0
+IsPlain ResetOptions = Unit {0}
+IsPlain (SetOption code value) = Unit {0}
+IsPlain (Grab clip) = Unit {0}
+IsPlain (Clip clip bytes) = Unit {0}
+IsPlain _ = ⊥
 
 -- what the last line that names it leaves: down after a `key down`, a `key rep` or a `button down`
 abbrev pub leaves_down : Option Line → Bool

@@ -1,4 +1,3 @@
-pub mod Hex
 pub mod Line
 pub mod Down
 pub mod Balanced

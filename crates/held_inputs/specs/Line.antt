@@ -1,15 +1,12 @@
 -- The text of each line that a screen prints.
-use Rattle.std.specs.Prelude.{ℕ, ◌+◌, ◌*◌, List, [], ◌∷◌, ◌++◌, length, codes}
+use Rattle.std.specs.Prelude.{ℕ, ◌+◌, ◌*◌, ◌≤◌, List, [], ◌∷◌, ◌++◌, length, codes}
 use Rattle.std.specs.List.{flat_map}
 use Rattle.std.specs.Fmt.{decimal, signed_decimal}
 use Rattle.std.specs.Int.{w32, to_be_bytes}
 use Rattle.share_base.specs.Clips.{clip_number}
+use Rattle.message_codec.specs.Showing.{hex, after_blank}
 use Rattle.held_inputs.specs.declared.line.Line.{Line}
 use Rattle.held_inputs.specs.declared.line.Line.TheVariants.{Enter, Leave, KeyDown, KeyRepeat, KeyUp, ButtonDown, ButtonUp, MoveTo, MoveBy, Wheel, SaverOn, SaverOff, ResetOptions, SetOption, Grab, Clip}
-use Rattle.held_inputs.specs.Hex.{hex}
-
-abbrev pub after_blank : List ℕ → List ℕ
-after_blank field = 32 ∷ field
 
 -- the words that a line begins with, then each field after a blank, then a newline
 abbrev pub text : List ℕ → List (List ℕ) → List ℕ
@@ -51,3 +48,7 @@ room_of ResetOptions = 14
 room_of (SetOption code value) = 28
 room_of (Grab clip) = 11
 room_of (Clip clip bytes) = 2 * length bytes + 13
+
+-- every line of one message but those of a leaving is so short
+abbrev pub IsShort : Line → Type 0
+IsShort line = room_of line ≤ 37

@@ -1,5 +1,5 @@
 -- Lines whose numbers are in the ranges of their fields, as those of every line of the program are.
-use Rattle.std.specs.Prelude.{ℕ, ◌<◌, ◌^◌, FitsSigned}
+use Rattle.std.specs.Prelude.{◌<◌, ◌^◌, FitsSigned}
 use Rattle.std.specs.List.{AllByRecursion}
 use Rattle.std.specs.Int.{w16}
 use Rattle.held_inputs.specs.declared.line.Line.{Line}

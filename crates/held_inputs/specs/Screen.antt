@@ -2,7 +2,6 @@
 use Rattle.std.specs.Prelude.{ℕ, List, [], ◌∷◌, ◌++◌, length, Option, None, Some, Bool, true, false, cond, ◌==◌, ltb}
 use Rattle.std.specs.Option.{option_map}
 use Rattle.share_base.specs.declared.numbers.KeyId.{KeyId}
-use Rattle.share_base.specs.declared.numbers.Mask.{Mask}
 use Rattle.message_codec.specs.declared.messages.Msg.{Msg}
 use Rattle.message_codec.specs.declared.messages.Msg.TheVariants as msg
 use Rattle.modifier_map.specs.Map.{key_under, mask_under, changed, identity}
@@ -41,6 +40,7 @@ abbrev pub press : List Line → Option ℕ → Option ℕ → ℕ → ℕ → L
 press lines (Some first) id button mask = KeyRepeat first 1 button mask ∷ []
 press lines None id button mask = first_press (ltb (length (held_keys lines)) 512) id button mask
 
+-- the lines of a repeat and of an up, by the id of the key that is down; none where it is up
 abbrev pub repeat : Option ℕ → ℕ → ℕ → ℕ → List Line
 repeat (Some first) count button mask = KeyRepeat first count button mask ∷ []
 repeat None count button mask = []
@@ -52,7 +52,7 @@ lift None button = []
 abbrev pub saver_line : ℕ → Line
 saver_line on = cond (on == 0) SaverOff SaverOn
 
--- the lines of one message; a message that has no row prints none
+-- the lines of one message; none for those of options and clipboards, whose lines are printed a layer above, and for all others
 abbrev pub applied : Screen → Msg → List Line
 applied s (msg.Enter x y seq mask) = Enter x y seq (meant_mask s.mods mask) ∷ []
 applied s msg.Leave = releases s.lines ++ Leave ∷ []
@@ -86,6 +86,10 @@ after s c = record { lines = s.lines ++ lines_of s c; mods = mods_after s.mods c
 abbrev pub screen_from : Screen → List Call → Screen
 screen_from s [] = s
 screen_from s (c ∷ cs) = screen_from (after s c) cs
+
+-- the screen with lines that the layer above printed
+abbrev pub with_lines : Screen → List Line → Screen
+with_lines s more = record { lines = s.lines ++ more; mods = s.mods }
 
 -- the screen after calls, oldest first, from this map on
 abbrev pub screen : ModMap → List Call → Screen

@@ -1,11 +1,12 @@
 -- What an injector keeps of a screen, and what its calls tell.
-use Rattle.std.specs.Prelude.{◌≡◌, ℕ, List, [], Bool, false, slice_index_or}
-use Rattle.std.specs.List.{flat_map}
+use Rattle.std.specs.Prelude.{◌≡◌, ℕ, List, [], false, slice_index_or}
+use Rattle.std.specs.List.{flat_map, AllByRecursion}
 use Rattle.modifier_map.specs.declared.map.ModMap.{ModMap}
 use Rattle.held_inputs.specs.declared.line.Line.{Line}
 use Rattle.held_inputs.specs.declared.held.Held.{Held}
 use Rattle.held_inputs.specs.declared.injector.Injector.{Injector}
 use Rattle.held_inputs.specs.Line.{line_of}
+use Rattle.held_inputs.specs.Ranges.{Fits}
 use Rattle.held_inputs.specs.Down.{held_keys, is_button_down}
 use Rattle.held_inputs.specs.Screen.{Screen, Call, screen, after, lines_of}
 
@@ -29,7 +30,8 @@ pub record Tells (old new : Injector) (call : Call) (lines : List Line) : Type 0
   pub stands : (s : Screen) → Stands old s → Stands new (after s call)
   pub gives : (s : Screen) → Stands old s → lines ≡ lines_of s call
 
--- the same, with the lines as text
+-- the same, with the lines as text, which is read in one way since each line is in its ranges
 pub record Prints (old new : Injector) (call : Call) (printed : List ℕ) : Type 0 where
   pub stands : (s : Screen) → Stands old s → Stands new (after s call)
   pub gives : (s : Screen) → Stands old s → printed ≡ flat_map line_of (lines_of s call)
+  pub fits : (s : Screen) → Stands old s → AllByRecursion Fits (lines_of s call)

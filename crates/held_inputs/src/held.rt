@@ -1,8 +1,9 @@
 //! What is down: keys with their ids, and buttons of the mouse.
 
 ghost use Rattle.std.specs.Prelude.{◌≡◌, ◌↔◌, ◌≤◌, ◌<◌, ◌+◌, ◌*◌, ◌++◌, [], false, length, map, replicate, slice_index_or, slice_set, IsTrue};
-ghost use Rattle.std.specs.List.{flat_map};
+ghost use Rattle.std.specs.List.{flat_map, AllByRecursion};
 ghost use Rattle.held_inputs.specs.Line.{line_of};
+ghost use Rattle.held_inputs.specs.Ranges.{Fits};
 ghost use Rattle.held_inputs.specs.Down.{up_of};
 ghost use Rattle.held_inputs.specs.Table.{found, inserted, removed, places};
 ghost use Rattle.held_inputs.specs.Stands.{AllUp};
@@ -95,6 +96,8 @@ impl Held {
     /// All that is down goes up: the keys by rising button, then the mouse buttons by rising number.
     pub fn release(&mut self) -> Lines
         ensures printed { result ≡ flat_map line_of (map up_of self.old.keys) ++ flat_map line_of (map ButtonUp (places self.old.buttons (length self.old.buttons))) }
+        ensures fits { AllByRecursion Fits (map up_of self.old.keys) }
+        ensures few { length self.old.buttons ≤ 256 }
         ensures keys { self.new.keys ≡ [] }
         ensures buttons { self.new.buttons ≡ replicate 256 false }
         ensures bound { length result ≤ 13824 }
@@ -108,19 +111,23 @@ impl Held {
     }
 }
 
+/// The line by which a key goes up.
+fn up_of(key: HeldKey) -> Line
+    ensures is { result ≡ up_of key }
+    ensures fits { Fits result }
+{
+    let HeldKey { button, id } = key;
+    Line::KeyUp { id, button }
+}
+
 fn put_key_ups(lines: &mut Lines, keys: &[HeldKey])
     requires { length lines.old + 19 * length keys.now ≤ 16384 }
     ensures printed { lines.new ≡ lines.old ++ flat_map line_of (map up_of keys.now) }
+    ensures fits { AllByRecursion Fits (map up_of keys.now) }
     ensures bound { length lines.new ≤ length lines.old + 19 * length keys.now }
 {
     for key in keys {
-        put_line(
-            lines,
-            Line::KeyUp {
-                id: key.id,
-                button: key.button,
-            },
-        );
+        put_line(lines, up_of(*key));
     }
 }
 

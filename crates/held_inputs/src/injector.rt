@@ -4,7 +4,8 @@ ghost use Rattle.std.specs.Prelude.{◌≡◌, ◌↔◌, ◌≤◌, ℕ, [], Is
 ghost use Rattle.std.specs.List.{flat_map};
 ghost use Rattle.std.specs.Option.{option_to_list, ForSome};
 ghost use Rattle.message_codec.specs.declared.messages.Msg.TheVariants as message;
-ghost use Rattle.held_inputs.specs.Line.{line_of, room_of};
+ghost use Rattle.held_inputs.specs.Line.{line_of, IsShort};
+ghost use Rattle.held_inputs.specs.Ranges.{Fits};
 ghost use Rattle.held_inputs.specs.Balanced.{NothingDown};
 ghost use Rattle.held_inputs.specs.Screen.{Screen, Applies, SetsOption, ResetsOptions, ReleasesAll, after, meant_id, meant_mask, saver_line};
 ghost use Rattle.held_inputs.specs.Stands.{Stands, StandsFor, Tells, Prints};
@@ -49,8 +50,9 @@ impl Injector {
         self.mods = ModMap::new();
     }
 
-    /// The lines of a message. Messages that no line is printed for give none, and so do those
-    /// of options and clipboards, which the caller prints.
+    /// The lines of a message. Those of options and clipboards give none, since the caller prints
+    /// their lines and calls `set_option` and `reset_options`; so do those for which none is printed.
+    /// No answer is longer than the releases with `leave` after them.
     pub fn apply(&mut self, msg: &Msg) -> Lines
         ensures prints { Prints self.old self.new (Applies msg.now) result }
         ensures bound { length result ≤ 13830 }
@@ -81,7 +83,7 @@ impl Injector {
     }
 
     /// The ups of all that is down: the keys by rising button, then the mouse buttons by rising
-    /// number. After it nothing is down.
+    /// number. After it nothing is down. The bound is 512 keys at 19 bytes and 256 mouse buttons at 16.
     pub fn release_all(&mut self) -> Lines
         ensures prints { Prints self.old self.new ReleasesAll result }
         ensures bound { length result ≤ 13824 }
@@ -98,7 +100,8 @@ impl Injector {
 
     fn enter(&mut self, x: i16, y: i16, seq: u32, mask: u16) -> Option<Line>
         ensures tells { Tells self.old self.new (Applies (message.Enter x y seq mask)) (option_to_list result) }
-        ensures short { IfSome result (λ line. room_of line ≤ 37) }
+        ensures short { IfSome result IsShort }
+        ensures fits { IfSome result Fits }
     {
         let mask = self.meant_mask(mask);
         Some(Line::Enter { x, y, seq, mask })
@@ -115,7 +118,8 @@ impl Injector {
 
     fn press(&mut self, id: u16, mask: u16, button: u16) -> Option<Line>
         ensures tells { Tells self.old self.new (Applies (message.KeyDown id mask button)) (option_to_list result) }
-        ensures short { IfSome result (λ line. room_of line ≤ 37) }
+        ensures short { IfSome result IsShort }
+        ensures fits { IfSome result Fits }
     {
         let mask = self.meant_mask(mask);
         if let Some(id) = self.held.id(button) {
@@ -136,7 +140,8 @@ impl Injector {
 
     fn repeat(&mut self, mask: u16, count: u16, button: u16) -> Option<Line>
         ensures tells { (id : ℕ) → Tells self.old self.new (Applies (message.KeyRepeat id mask count button)) (option_to_list result) }
-        ensures short { IfSome result (λ line. room_of line ≤ 37) }
+        ensures short { IfSome result IsShort }
+        ensures fits { IfSome result Fits }
     {
         let mask = self.meant_mask(mask);
         let id = self.held.id(button)?;
@@ -150,7 +155,8 @@ impl Injector {
 
     fn lift(&mut self, button: u16) -> Option<Line>
         ensures tells { (id mask : ℕ) → Tells self.old self.new (Applies (message.KeyUp id mask button)) (option_to_list result) }
-        ensures short { IfSome result (λ line. room_of line ≤ 37) }
+        ensures short { IfSome result IsShort }
+        ensures fits { IfSome result Fits }
     {
         let id = self.held.id(button)?;
         self.held.lift(button);
@@ -159,7 +165,8 @@ impl Injector {
 
     fn push(&mut self, b: u8) -> Option<Line>
         ensures tells { Tells self.old self.new (Applies (message.ButtonDown b)) (option_to_list result) }
-        ensures short { IfSome result (λ line. room_of line ≤ 37) }
+        ensures short { IfSome result IsShort }
+        ensures fits { IfSome result Fits }
     {
         if self.held.is_button_down(b) {
             return None;
@@ -170,7 +177,8 @@ impl Injector {
 
     fn let_go(&mut self, b: u8) -> Option<Line>
         ensures tells { Tells self.old self.new (Applies (message.ButtonUp b)) (option_to_list result) }
-        ensures short { IfSome result (λ line. room_of line ≤ 37) }
+        ensures short { IfSome result IsShort }
+        ensures fits { IfSome result Fits }
     {
         if !self.held.is_button_down(b) {
             return None;
@@ -184,10 +192,7 @@ impl Injector {
     fn meant_id(&self, id: u16) -> Option<u16>
         ensures { result ≡ meant_id self.now.mods id }
     {
-        match self.mods.key(KeyId(id)) {
-            Some(key) => Some(key.0),
-            None => None,
-        }
+        self.mods.key(KeyId(id)).map(|key| key.0)
     }
 
     /// What a mask is injected as.
@@ -211,7 +216,7 @@ fn saver(on: u8) -> Line
 
 /// At most one line.
 fn one(line: Option<Line>) -> Lines
-    requires { ForSome line (λ l. room_of l ≤ 37) }
+    requires { ForSome line IsShort }
     ensures printed { result ≡ flat_map line_of (option_to_list line) }
     ensures bound { length result ≤ 37 }
 {

@@ -86,10 +86,10 @@ impl HeldKeys {
         if at >= keys.len() {
             return;
         }
-        if keys[at].button == button {
-            self.slots.remove(at);
+        if keys[at].button != button {
             return;
         }
+        self.slots.remove(at);
     }
 
     /// Takes all keys away.

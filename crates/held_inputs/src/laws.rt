@@ -7,17 +7,31 @@ ghost use Rattle.modifier_map.specs.declared.map.ModMap.{ModMap};
 ghost use Rattle.held_inputs.specs.declared.line.Line.{Line};
 ghost use Rattle.held_inputs.specs.Line.{line_of};
 ghost use Rattle.held_inputs.specs.Ranges.{Fits};
-ghost use Rattle.held_inputs.specs.Screen.{Call, ReleasesAll, screen, after};
+ghost use Rattle.held_inputs.specs.Screen.{Screen, Call, ReleasesAll, screen, after, with_lines};
+ghost use Rattle.held_inputs.specs.declared.injector.Injector.{Injector};
+ghost use Rattle.held_inputs.specs.Down.{IsPlain};
+ghost use Rattle.held_inputs.specs.Stands.{Stands};
 ghost use Rattle.held_inputs.specs.Balanced.{Balanced, NothingDown, ClearAtLeaves};
 
 /// Whatever a screen is told, after its releases every key and every mouse button has gone up, one up
-/// for each down, and nothing was down where it was left. A list of calls grows by one call as `after`
-/// says, so what an injector's calls say of all screens holds of all lists of calls.
+/// for each down, and nothing was down where it was left.
 pub fn released()
     ensures balanced { (mods : ModMap) (calls : List Call) → Balanced (screen mods (calls ++ ReleasesAll ∷ [])).lines }
     ensures nothing { (mods : ModMap) (calls : List Call) → NothingDown (screen mods (calls ++ ReleasesAll ∷ [])).lines }
     ensures leaves { (mods : ModMap) (calls : List Call) → ClearAtLeaves (screen mods calls).lines }
-    ensures grows { (mods : ModMap) (calls : List Call) (c : Call) → screen mods (calls ++ c ∷ []) ≡ after (screen mods calls) c }
+{}
+
+/// A list of calls grows by one call as `after` says. So what the calls of an injector say of every
+/// screen for which it stood says, of every list of calls for which it stood, that it stands for that
+/// list with the call added, and what it printed.
+pub fn one_call_more()
+    ensures { (mods : ModMap) (calls : List Call) (c : Call) → screen mods (calls ++ c ∷ []) ≡ after (screen mods calls) c }
+{}
+
+/// Lines of options and of clipboards, which a layer above prints between the calls, leave down what
+/// was down.
+pub fn plain_lines()
+    ensures { (i : Injector) (s : Screen) (more : List Line) → AllByRecursion IsPlain more → Stands i s → Stands i (with_lines s more) }
 {}
 
 /// The text of no line begins that of another, and the text of a list of lines is that of no other

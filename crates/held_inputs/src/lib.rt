@@ -16,6 +16,6 @@ mod printing;
 mod tests;
 
 pub use injector::Injector;
-pub use laws::{one_text, released};
+pub use laws::{one_call_more, one_text, plain_lines, released};
 pub use line::Line;
 pub use printing::put_line;

@@ -1,10 +1,10 @@
 //! Lines as text.
 
-ghost use Rattle.std.specs.Prelude.{◌≡◌, ◌≤◌, ◌<◌, ◌+◌, ◌*◌, ◌++◌, [], ◌∷◌, false, codes, length, map};
+ghost use Rattle.std.specs.Prelude.{◌≡◌, ◌≤◌, ◌<◌, ◌+◌, ◌*◌, ◌++◌, [], ◌∷◌, codes, length, map};
 ghost use Rattle.std.specs.Int.{w32, to_be_bytes};
-ghost use Rattle.std.specs.Fmt.{decimal, signed_decimal, digit_glyph};
-ghost use Rattle.held_inputs.specs.Line.{line_of, room_of, text, after_blank};
-ghost use Rattle.held_inputs.specs.Hex.{hex};
+ghost use Rattle.std.specs.Fmt.{decimal, signed_decimal};
+ghost use Rattle.held_inputs.specs.Line.{line_of, room_of, text};
+ghost use Rattle.message_codec.specs.Showing.{hex_digit, hex, after_blank};
 
 use crate::line::Line;
 use share_base::{Lines, put_i16, put_u16, put_u32};
@@ -133,17 +133,17 @@ fn put_hex(lines: &mut Lines, bytes: &[u8])
         return;
     }
     for byte in bytes {
-        lines.extend(&[digit(*byte / 16), digit(*byte % 16)]);
+        lines.extend(&[hex_digit(*byte / 16), hex_digit(*byte % 16)]);
     }
 }
 
-fn digit(value: u8) -> u8
-    requires { value < 16 }
-    ensures { result ≡ digit_glyph false value }
+fn hex_digit(number: u8) -> u8
+    requires { number < 16 }
+    ensures { result ≡ hex_digit number }
 {
-    if value < 10 {
-        b'0' + value
+    if number < 10 {
+        b'0' + number
     } else {
-        b'a' + (value - 10)
+        b'a' + (number - 10)
     }
 }

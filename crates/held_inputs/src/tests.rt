@@ -1,9 +1,20 @@
+ghost use Rattle.std.specs.Prelude.{◌≤◌};
+ghost use Rattle.held_inputs.specs.Line.{room_of};
+
 use super::*;
 use message_codec::Msg;
 use modifier_map::ModMap;
 use share_base::{ClipId, Lines, Octets};
 use std::process::Abort;
 use std::test::*;
+
+fn prints(rt: &impl Abort, line: Line, want: &[u8])
+    requires { room_of line ≤ 37 }
+{
+    let mut lines = Lines::new();
+    put_line(&mut lines, line);
+    assert_eq!(rt; lines.as_slice(), want);
+}
 
 fn applies(rt: &impl Abort, injector: &mut Injector, msg: Msg, want: &[u8]) {
     assert_eq!(rt; injector.apply(&msg).as_slice(), want);
@@ -128,35 +139,22 @@ fn at_most_512_keys_are_held(rt: HostRuntime) {
 
 #[test]
 fn each_line_has_its_text(rt: HostRuntime) -> Result<(), Fail> {
+    let code = 0x4d4d_4653;
+    let clip = ClipId::Clipboard;
     let mut bytes = Octets::new(rt.alloc());
     bytes.extend(b"abc")?;
-    let clip = ClipId::Clipboard;
-    let rows = [
-        (Line::MoveTo { x: 5, y: -2 }, b"move 5 -2\n".as_slice()),
-        (Line::MoveBy { dx: -1, dy: 0 }, b"moveby -1 0\n".as_slice()),
-        (
-            Line::Wheel { dx: 0, dy: -120 },
-            b"wheel 0 -120\n".as_slice(),
-        ),
-        (Line::SaverOn, b"saver on\n".as_slice()),
-        (Line::SaverOff, b"saver off\n".as_slice()),
-        (Line::ResetOptions, b"reset options\n".as_slice()),
-        (
-            Line::SetOption {
-                code: 0x4d4d_4653,
-                value: 2,
-            },
-            b"option 4d4d4653 2\n".as_slice(),
-        ),
-        (Line::Grab { clip }, b"grab 0\n".as_slice()),
-    ];
-    for (line, want) in rows {
-        let mut lines = Lines::new();
-        put_line(&mut lines, line);
-        assert_eq!(rt; lines.as_slice(), want);
-    }
-    let mut lines = Lines::new();
-    put_line(&mut lines, Line::Clip { clip, bytes });
-    assert_eq!(rt; lines.as_slice(), b"clip 0 616263\n".as_slice());
+    prints(&rt, Line::MoveTo { x: 5, y: -2 }, b"move 5 -2\n");
+    prints(&rt, Line::MoveBy { dx: -1, dy: 0 }, b"moveby -1 0\n");
+    prints(&rt, Line::Wheel { dx: 0, dy: -120 }, b"wheel 0 -120\n");
+    prints(&rt, Line::SaverOn, b"saver on\n");
+    prints(&rt, Line::SaverOff, b"saver off\n");
+    prints(&rt, Line::ResetOptions, b"reset options\n");
+    prints(
+        &rt,
+        Line::SetOption { code, value: 2 },
+        b"option 4d4d4653 2\n",
+    );
+    prints(&rt, Line::Grab { clip }, b"grab 0\n");
+    prints(&rt, Line::Clip { clip, bytes }, b"clip 0 616263\n");
     Ok(())
 }

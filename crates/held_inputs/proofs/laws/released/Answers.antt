@@ -1,5 +1,4 @@
-use Rattle.held_inputs.specs.Screen.{Call, ReleasesAll}
-use Rattle.held_inputs.proofs.Histories.{balanced, nothing_left, good-screen, screen-grows}
+use Rattle.held_inputs.proofs.Histories.{balanced, nothing_left, good-screen}
 use Rattle.held_inputs.proofs.laws.released.Goals as goal
 
 pub returns : goal.returns
@@ -7,5 +6,4 @@ returns c = record {
   balanced = balanced;
   nothing = nothing_left;
   leaves = λ mods calls. (good-screen mods calls).leaves;
-  grows = screen-grows;
 }

@@ -1,7 +1,7 @@
 use Rattle.std.proofs.Common.{◌≡◌, ◌≤◌, ◌+◌, ◌*◌, ◌++◌, length, map, take}
 use Rattle.std.specs.Fmt.{decimal}
 use Rattle.std.specs.List.{flat_map}
-use Rattle.held_inputs.specs.Line.{after_blank}
+use Rattle.message_codec.specs.Showing.{after_blank}
 use Rattle.held_inputs.proofs.printing.put_numbers.Given as goal
 
 abbrev pub invariant-loop-number : goal.invariant-loop-number

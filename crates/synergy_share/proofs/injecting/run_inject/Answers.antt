@@ -5,7 +5,7 @@ use Rattle.synergy_share.proofs.injecting.run_inject.Goals as goal
 
 pub loop-total-init : goal.loop-total-init
 loop-total-init g c =
-    let begun = c.new-framer.ensures in
+    let begun = c.new-framer.ensures.begun in
     record {
       reads = reads_none (g.S.Source.left c.args.input.now) (g.K.Sink.taken c.args.out.now) c.new-framer.result (ap (λ (f : FramerParts). f.rest) begun) (ap (λ (f : FramerParts). f.given) begun);
       limit = ap (λ (f : FramerParts). f.limit) begun;

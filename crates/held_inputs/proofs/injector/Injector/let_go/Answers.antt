@@ -1,5 +1,5 @@
 use Rattle.std.proofs.Common.{refl, sym, ◌∙◌}
-use Rattle.held_inputs.proofs.Standing.{let_go-none, let_go-held}
+use Rattle.held_inputs.proofs.Standing.{let_go-held}
 use Rattle.held_inputs.proofs.injector.Injector.let_go.Goals as goal
 
 pub returns-clause-tells : goal.returns-clause-tells
