@@ -1,12 +1,12 @@
 -- The table of bits at the buttons.
-use Rattle.std.proofs.Common.{◌≡◌, ℕ, zero, suc, ◌+◌, ◌<◌, ◌≢◌, List, [], ◌∷◌, length, Some, replicate, refl, sym, ap, ◌∙◌, cond, add-zero, arith}
+use Rattle.std.proofs.Common.{Bool, true, false, ◌≡◌, ℕ, zero, suc, ◌+◌, ◌<◌, ◌≢◌, List, [], ◌∷◌, length, Option, None, Some, replicate, refl, sym, ap, ◌∙◌, cond, add-zero, arith}
 use Rattle.std.specs.Prelude.{fold, slice_get, slice_set, nat_eq, bit_or, bit_xor}
 use Rattle.std.proofs.lemmas.List.{length-replicate, length-set}
 use Rattle.std.proofs.lemmas.List.{get_or-set_same, get_or-set_other}
 use Rattle.std.proofs.lemmas.Option.{slice_get-get_or}
 use Rattle.std.proofs.lemmas.Bool.Decides.{nat_tests}
-use Rattle.modifier_map.specs.Table.{key_bit, lock_bit}
-use Rattle.modifier_map.specs.Presses.{Call, Press, bit_at, mods_below, mods_of, toggles_of, Kept, StandsFor}
+use Rattle.modifier_map.specs.Table.{bit_of, key_bit, lock_bit}
+use Rattle.modifier_map.specs.Presses.{Call, Press, Release, down, class_down, bit_at, mods_below, mods_of, toggles_of, Kept, StandsFor}
 
 get-replicate : {A : Type 0} (n i : ℕ) (x : A) → i < n → slice_get (replicate n x) i ≡ Some x
 get-replicate zero i x lt = absurd (omega arith)
@@ -17,11 +17,11 @@ get-replicate (suc n) (suc i) x lt = get-replicate n i x (omega arith)
 pub fresh : (n : ℕ) → n ≡ 256 → StandsFor (record { bits = replicate n 0; toggles = 0 }) []
 fresh n e = record { long = length-replicate n 0 ∙ e; each = λ b lt. get-replicate n b 0 (omega arith); toggles = refl }
 
-below-suc : (calls : List Call) (button : ℕ) → mods_below calls (suc button) ≡ bit_or (mods_below calls button) (bit_at calls button)
+pub below-suc : (calls : List Call) (button : ℕ) → mods_below calls (suc button) ≡ bit_or (mods_below calls button) (bit_at calls button)
 unfolding mods_below
 below-suc calls button = refl
 
-below-zero : (calls : List Call) → mods_below calls 0 ≡ 0
+pub below-zero : (calls : List Call) → mods_below calls 0 ≡ 0
 unfolding mods_below
 below-zero calls = refl
 
@@ -45,6 +45,16 @@ joined calls kept stands =
     ∙ joined_from calls kept.bits 0 (λ i lt. stands.each i (omega (arith, stands.long)) ∙ ap (λ (n : ℕ). Some (bit_at calls n)) (omega arith))
     ∙ ap (mods_below calls) (omega (arith, stands.long))
 
+-- what is at a button after a key went down at another, or at it
+bit_cond : (test : Bool) (id : ℕ) (other : Option ℕ) → cond test (key_bit id) (bit_of (class_down other)) ≡ bit_of (class_down (cond test (Some id) other))
+bit_cond true id other = refl
+bit_cond false id other = refl
+
+-- what is at a button after the key at another went up, or at it
+none_cond : (test : Bool) (other : Option ℕ) → cond test 0 (bit_of (class_down other)) ≡ bit_of (class_down (cond test None other))
+none_cond true other = refl
+none_cond false other = refl
+
 -- one entry of the table was set
 set_same : (bits : List ℕ) (button bit : ℕ) → button < length bits → slice_get (slice_set bits button bit) button ≡ Some bit
 set_same bits button bit lt = slice_get-get_or (slice_set bits button bit) button 0 (omega (arith, length-set bits button bit)) ∙ ap (λ (n : ℕ). Some n) (get_or-set_same bits button bit 0 lt)
@@ -63,6 +73,14 @@ pub pressed : (calls : List Call) (bits : List ℕ) (toggles id button bit flip 
     → StandsFor (record { bits = slice_set bits button bit; toggles = bit_xor toggles flip }) (Press id button ∷ calls)
 pressed calls bits toggles id button bit flip lt bit-is flip-is s = record {
   long = length-set bits button bit ∙ s.long;
-  each = λ b below. set_each (bit_at calls) bits button bit b (omega (arith, s.long)) (omega (arith, s.long)) (s.each b below) ∙ ap (λ (n : ℕ). Some (cond (nat_eq b button) n (bit_at calls b))) bit-is;
+  each = λ b below. set_each (bit_at calls) bits button bit b (omega (arith, s.long)) (omega (arith, s.long)) (s.each b below) ∙ ap (λ (n : ℕ). Some (cond (nat_eq b button) n (bit_at calls b))) bit-is ∙ ap (λ (n : ℕ). Some n) (bit_cond (nat_eq b button) id (down calls b));
   toggles = ap (λ (n : ℕ). bit_xor n flip) s.toggles ∙ ap (bit_xor (toggles_of calls)) flip-is;
+}
+
+pub released : (calls : List Call) (bits : List ℕ) (toggles button : ℕ) → button < 256 → StandsFor (record { bits = bits; toggles = toggles }) calls
+    → StandsFor (record { bits = slice_set bits button 0; toggles = toggles }) (Release button ∷ calls)
+released calls bits toggles button lt s = record {
+  long = length-set bits button 0 ∙ s.long;
+  each = λ b below. set_each (bit_at calls) bits button 0 b (omega (arith, s.long)) (omega (arith, s.long)) (s.each b below) ∙ ap (λ (n : ℕ). Some n) (none_cond (nat_eq b button) (down calls b));
+  toggles = s.toggles;
 }

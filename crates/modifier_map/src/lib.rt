@@ -7,10 +7,12 @@
 
 mod class;
 mod held_mods;
+mod laws;
 mod map;
 #[cfg(test)]
 mod tests;
 
 pub use class::ModClass;
 pub use held_mods::HeldMods;
+pub use laws::mods_are_held;
 pub use map::ModMap;

@@ -52,6 +52,7 @@ impl Octets {
     {
         self.bytes.as_slice()
     }
+
     /// How many bytes there are.
     pub fn len(&self) -> usize
         ensures { result ≡ length self.now }

@@ -148,6 +148,7 @@ impl Framer {
             body: &self.bytes[4..end],
         }
     }
+
     /// Lets later frames have bodies of at most `limit` bytes, which is no less than the limit so far.
     /// It takes no memory.
     pub fn raise_limit(&mut self, limit: u32)

@@ -14,6 +14,6 @@ mod putting;
 mod tests;
 
 pub use framer::{FrameStep, Framer};
-pub use laws::{holds_little, one_frame, one_framing};
+pub use laws::{holds_little, however_cut, one_frame, one_framing};
 pub use limits::BODY_LIMIT;
 pub use putting::put_frame;
