@@ -5,3 +5,4 @@ pub mod Writing
 pub mod Memory
 pub mod Clips
 pub mod Reasons
+pub mod Screens
