@@ -1,3 +1,4 @@
 pub mod Ranges
 pub mod Adding
 pub mod Apart
+pub mod Walks

@@ -8,6 +8,7 @@
 mod link;
 mod links;
 mod range;
+mod walk;
 
 pub use link::{Landing, Link};
 pub use links::{LinkFault, Links};

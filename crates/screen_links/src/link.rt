@@ -1,7 +1,8 @@
 //! One link, and where it leads.
 
-ghost use Rattle.std.specs.Prelude.{◌↔◌, IsTrue};
-ghost use Rattle.screen_links.specs.Adding.{Blocks};
+ghost use Rattle.std.specs.Prelude.{◌≡◌, ◌<◌, ◌↔◌, IsTrue};
+ghost use Rattle.screen_links.specs.Adding.{Blocks, HasGoodRanges};
+ghost use Rattle.screen_links.specs.Walks.{Holds, Leaves, landing_of};
 
 use crate::range::Range;
 use share_base::{ScreenNo, Side};
@@ -36,5 +37,33 @@ impl Link {
         ensures { IsTrue result ↔ Blocks self.now from side range }
     {
         self.from == from && self.side == side && self.range.meets(range)
+    }
+
+    /// Whether it stands on that side of that screen, and its range has that place of it.
+    pub fn leaves(&self, side: Side, at: Landing) -> bool
+        ensures { IsTrue result ↔ Leaves self.now side at }
+    {
+        self.from == at.screen
+            && self.side == side
+            && 10_000 * self.range.a as u32 <= at.t
+            && at.t < 10_000 * self.range.b as u32
+    }
+
+    /// Where it leads from a place in its range: as far along the one range as the place is along
+    /// the other.
+    pub fn landing(&self, t: u32) -> Landing
+        requires good { HasGoodRanges self.now }
+        requires holds { Holds self.now t }
+        ensures lands { result ≡ landing_of self.now t }
+        ensures bound { result.t < 1000000 }
+    {
+        let Range { a, b } = self.range;
+        let onto = self.onto;
+        let along = t - 10_000 * a as u32;
+        let moved = along * (onto.b - onto.a) as u32 / (b - a) as u32;
+        Landing {
+            screen: self.to,
+            t: 10_000 * onto.a as u32 + moved,
+        }
     }
 }

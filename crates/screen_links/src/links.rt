@@ -1,11 +1,14 @@
 //! All links, in the order in which they were added.
 
-ghost use Rattle.std.specs.Prelude.{◌≡◌, ◌<◌, ◌↔◌, IsTrue, []};
+ghost use Rattle.std.specs.Prelude.{◌≡◌, ◌<◌, ◌↔◌, IsTrue, IfSome, [], Some};
 ghost use Rattle.screen_links.specs.Adding.{Overlaps, Adds};
+ghost use Rattle.screen_links.specs.Walks.{Across};
+ghost use Rattle.screen_links.specs.declared.link.Landing.{Landing as Place};
 
-use crate::link::Link;
+use crate::link::{Landing, Link};
 use crate::range::Range;
-use share_base::{ScreenNo, Side};
+use crate::walk::walk;
+use share_base::{ScreenNo, ScreenSet, Side};
 use std::alloc::Global;
 use std::marker::Model;
 
@@ -88,6 +91,28 @@ impl Links {
             Ok(()) => Ok(()),
             Err(_) => Err(LinkFault::OutOfMemory),
         }
+    }
+
+    /// The landing of a walk: the place on the first joined screen that a chain of links of that side
+    /// leads to, from the place `t` of that side of a screen. The screen's number and those in `joined`
+    /// are below 64, and `t` is below 1,000,000. `None` comes exactly where no chain leads to a joined
+    /// screen. It takes no memory and follows at most 64 links.
+    pub fn across(
+        &self,
+        joined: &ScreenSet,
+        from: ScreenNo,
+        side: Side,
+        t: u32,
+    ) -> Option<Landing>
+        requires from_a_screen { from.0 < 64 }
+        requires in_the_side { t < 1000000 }
+        ensures walks {
+          (landing : Place) → (result ≡ Some landing) ↔ Across self.now joined.now side (record { screen = from; t = t }) landing
+        }
+        ensures within { IfSome result (λ landing. (landing.screen.0 < 64) × (landing.t < 1000000)) }
+    {
+        let at = Landing { screen: from, t };
+        walk(self.links.as_slice(), joined, side, at)
     }
 
     /// The links, in the order in which they were added.
