@@ -26,6 +26,7 @@ apart_at links i j one other apart lt within is_one is_other =
 pub one_leaves : (links : List Link) (side : Side) (at : Landing) (one other : Link) → AreApart links → Contains links one → Leaves one side at → Contains links other → Leaves other side at → one ≡ other
 one_leaves links side at one other apart (i, i_within, is_one) h (j, j_within, is_other) k =
     elim (cases_order i j) [
-    inl same ↦ sym is_one ∙ ap (λ (n : ℕ). get_or links n one) same ∙ get_or_default links j one other j_within ∙ is_other
-    | inr (inl before) ↦ absurd (clash one other side at (apart_at links i j one other apart before j_within is_one is_other) h k)
-    | inr (inr after) ↦ absurd (clash other one side at (apart_at links j i other one apart after i_within is_other is_one) k h) ]
+      | inl same ↦ sym is_one ∙ ap (λ (n : ℕ). get_or links n one) same ∙ get_or_default links j one other j_within ∙ is_other
+      | inr (inl before) ↦ absurd (clash one other side at (apart_at links i j one other apart before j_within is_one is_other) h k)
+      | inr (inr after) ↦ absurd (clash other one side at (apart_at links j i other one apart after i_within is_other is_one) k h)
+    ]

@@ -200,4 +200,5 @@ pub ends_there : (links : List Link) (joined : ℕ) (side : Side) (start : Landi
     → Left links joined side start seen at → (landing : Landing) → (Some (landing_of link at.t) ≡ Some landing) ↔ Across links joined side start landing
 ends_there links joined side start seen at link apart within leaves fresh joins so_far landing = (
   (λ e. so_far.back landing (subst (λ (l : Landing). Onward links joined side seen at l) (let same : landing_of link at.t ≡ landing = cc in same) (arrives links joined side seen at link within leaves fresh joins))),
-  λ walk. ap (λ (l : Landing). Some l) (arrived links joined side seen at landing link apart within leaves joins (so_far.left landing walk)))
+  λ walk. ap (λ (l : Landing). Some l) (arrived links joined side seen at landing link apart within leaves joins (so_far.left landing walk)),
+)

@@ -20,15 +20,17 @@ or_true false = refl
 pub sees_it : (old new screen : ℕ) → SeesMore old new screen → has new screen ≡ true
 sees_it old new screen more =
     elim (eqb_tells screen screen) [
-    inl h ↦ more screen ∙ ap (λ (b : Bool). has old screen || b) h.0 ∙ or_true (has old screen)
-    | inr h ↦ absurd (h.1 refl) ]
+      | inl h ↦ more screen ∙ ap (λ (b : Bool). has old screen || b) h.0 ∙ or_true (has old screen)
+      | inr h ↦ absurd (h.1 refl)
+    ]
 
 -- every other screen is seen where it was
 pub sees_others : (old new screen k : ℕ) → SeesMore old new screen → k ≢ screen → has new k ≡ has old k
 sees_others old new screen k more other =
     elim (eqb_tells k screen) [
-    inl h ↦ absurd (other h.1)
-    | inr h ↦ more k ∙ ap (λ (b : Bool). has old k || b) h.0 ∙ or_false (has old k) ]
+      | inl h ↦ absurd (other h.1)
+      | inr h ↦ more k ∙ ap (λ (b : Bool). has old k || b) h.0 ∙ or_false (has old k)
+    ]
 
 or_none : (a b : Bool) → (a || b) ≡ false → a ≡ false
 or_none true b e = cc
@@ -67,12 +69,13 @@ unfolding unseen
 unseen_lt old new screen zero more fresh lt = absurd (omega arith)
 unseen_lt old new screen (suc n) more fresh lt =
     elim (eqb_tells n screen) [
-    inl h ↦
-      let was : has old n ≡ false = subst (λ (j : ℕ). has old j ≡ false) (sym h.1) fresh in
-      let now : has new n ≡ true = subst (λ (j : ℕ). has new j ≡ true) (sym h.1) (sees_it old new screen more) in
-      let below : unseen new n ≤ unseen old n = unseen_le old new screen n more in
-      rw (was, now) (omega arith)
-    | inr h ↦
-      let same : has new n ≡ has old n = sees_others old new screen n more h.1 in
-      let below : unseen new n < unseen old n = unseen_lt old new screen n more fresh (let ne : n ≢ screen = h.1 in omega arith) in
-      rw same (omega arith) ]
+      | inl h ↦
+          let was : has old n ≡ false = subst (λ (j : ℕ). has old j ≡ false) (sym h.1) fresh in
+          let now : has new n ≡ true = subst (λ (j : ℕ). has new j ≡ true) (sym h.1) (sees_it old new screen more) in
+          let below : unseen new n ≤ unseen old n = unseen_le old new screen n more in
+          rw (was, now) (omega arith)
+      | inr h ↦
+          let same : has new n ≡ has old n = sees_others old new screen n more h.1 in
+          let below : unseen new n < unseen old n = unseen_lt old new screen n more fresh (let ne : n ≢ screen = h.1 in omega arith) in
+          rw same (omega arith)
+    ]

@@ -2,3 +2,4 @@ pub mod Ranges
 pub mod Adding
 pub mod Apart
 pub mod Walks
+pub mod Places

@@ -97,18 +97,10 @@ impl Links {
     /// leads to, from the place `t` of that side of a screen. The screen's number and those in `joined`
     /// are below 64, and `t` is below 1,000,000. `None` comes exactly where no chain leads to a joined
     /// screen. It takes no memory and follows at most 64 links.
-    pub fn across(
-        &self,
-        joined: &ScreenSet,
-        from: ScreenNo,
-        side: Side,
-        t: u32,
-    ) -> Option<Landing>
+    pub fn across(&self, joined: &ScreenSet, from: ScreenNo, side: Side, t: u32) -> Option<Landing>
         requires from_a_screen { from.0 < 64 }
         requires in_the_side { t < 1000000 }
-        ensures walks {
-          (landing : Place) → (result ≡ Some landing) ↔ Across self.now joined.now side (record { screen = from; t = t }) landing
-        }
+        ensures walks { (landing : Place) → (result ≡ Some landing) ↔ Across self.now joined.now side (record { screen = from; t = t }) landing }
         ensures within { IfSome result (λ landing. (landing.screen.0 < 64) × (landing.t < 1000000)) }
     {
         let at = Landing { screen: from, t };

@@ -15,9 +15,7 @@ pub(crate) fn walk(links: &[Link], joined: &ScreenSet, side: Side, from: Landing
     requires sound { AreSound links.now }
     requires from_a_screen { from.screen.0 < 64 }
     requires in_the_side { from.t < 1000000 }
-    ensures walks {
-      (landing : Place) → (result ≡ Some landing) ↔ Across links.now joined.now side from landing
-    }
+    ensures walks { (landing : Place) → (result ≡ Some landing) ↔ Across links.now joined.now side from landing }
     ensures within { IfSome result (λ landing. (landing.screen.0 < 64) × (landing.t < 1000000)) }
 {
     let mut seen = ScreenSet::new();

@@ -16,7 +16,7 @@ returns-then-has-clause-walks c =
 pub returns-then-has-2-clause-walks : goal.returns-then-has-2-clause-walks
 returns-then-has-2-clause-walks c =
     subst (λ (l : Landing). (landing : Landing) → (Some l ≡ Some landing) ↔ Across c.args.links.now c.args.joined.now c.args.side c.args.from landing) (sym c.landing-at.ensures.lands)
-      (ends_there c.args.links.now c.args.joined.now c.args.side c.args.from c.loop-link.seen c.loop-link.at c.in-Some.link c.requires.sound.apart c.in-Some.ensures.found.0 c.in-Some.ensures.found.1 (sym c.has.ensures ∙ c.if-has.false) (sym c.has-in-Some.ensures ∙ c.if-has-2.true) c.loop-link.invariant)
+    (ends_there c.args.links.now c.args.joined.now c.args.side c.args.from c.loop-link.seen c.loop-link.at c.in-Some.link c.requires.sound.apart c.in-Some.ensures.found.0 c.in-Some.ensures.found.1 (sym c.has.ensures ∙ c.if-has.false) (sym c.has-in-Some.ensures ∙ c.if-has-2.true) c.loop-link.invariant)
 
 pub loop-link-smaller : goal.loop-link-smaller
 loop-link-smaller c =
@@ -25,7 +25,7 @@ loop-link-smaller c =
 pub loop-link-preserved : goal.loop-link-preserved
 loop-link-preserved c =
     subst (λ (l : Landing). Left c.args.links.now c.args.joined.now c.args.side c.args.from c.insert-in-Some.new.self l) (sym c.landing-at.ensures.lands)
-      (left_more c.args.links.now c.args.joined.now c.args.side c.args.from c.loop-link.seen c.insert-in-Some.new.self c.loop-link.at c.in-Some.link c.requires.sound.apart c.in-Some.ensures.found.0 c.in-Some.ensures.found.1 (sym c.has.ensures ∙ c.if-has.false) (sym c.has-in-Some.ensures ∙ c.if-has-2.false) c.insert-in-Some.ensures c.loop-link.invariant)
+    (left_more c.args.links.now c.args.joined.now c.args.side c.args.from c.loop-link.seen c.insert-in-Some.new.self c.loop-link.at c.in-Some.link c.requires.sound.apart c.in-Some.ensures.found.0 c.in-Some.ensures.found.1 (sym c.has.ensures ∙ c.if-has.false) (sym c.has-in-Some.ensures ∙ c.if-has-2.false) c.insert-in-Some.ensures c.loop-link.invariant)
 
 pub returns-clause-walks : goal.returns-clause-walks
 returns-clause-walks c =

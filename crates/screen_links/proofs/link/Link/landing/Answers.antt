@@ -1,4 +1,4 @@
-use Rattle.screen_links.proofs.Places.{landing_lt}
+use Rattle.screen_links.proofs.Along.{landing_lt}
 use Rattle.screen_links.proofs.link.Link.landing.Goals as goal
 
 pub returns-clause-bound : goal.returns-clause-bound
