@@ -6,3 +6,4 @@ pub mod Memory
 pub mod Clips
 pub mod Reasons
 pub mod Screens
+pub mod Shapes

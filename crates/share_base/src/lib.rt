@@ -7,6 +7,7 @@
 #![tactic(auto)]
 
 mod clip_id;
+mod corners;
 mod decimal;
 mod lines;
 mod memory_sink;
@@ -23,6 +24,7 @@ mod source;
 mod tests;
 
 pub use clip_id::ClipId;
+pub use corners::Corners;
 pub use decimal::{put_i16, put_u16, put_u32, put_u64};
 pub use lines::Lines;
 pub use memory_sink::MemorySink;
