@@ -48,3 +48,16 @@ fn a_second_tap_passes(rt: HostRuntime) {
     assert_eq!(rt; gate.ask(0, Side::Right), GateAnswer::Stay);
     assert_eq!(rt; gate.ask(100, Side::Right), GateAnswer::Stay);
 }
+
+/// The gate's part of the worked row of a delay.
+#[test]
+fn a_wait_passes_when_it_is_due(rt: HostRuntime) {
+    let mut gate = Gate::new(250, 0);
+    assert_eq!(rt; gate.ask(0, Side::Right), GateAnswer::Wait { due: 250 });
+    assert_eq!(rt; gate.ask(249, Side::Right), GateAnswer::Wait { due: 250 });
+    let side = Side::Right;
+    assert_eq!(rt; gate.due(), Some(Waiting { side, due: 250 }));
+    assert_eq!(rt; gate.ask(250, side), GateAnswer::Pass);
+    gate.away();
+    assert_eq!(rt; gate.due(), None);
+}
