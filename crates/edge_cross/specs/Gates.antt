@@ -24,23 +24,27 @@ repeats time (Some tap) now side = same_side tap.side side && nat_le (now - tap.
 abbrev pub kept_tap : ℕ → List Call → Option Tap
 kept_tap time [] = None
 kept_tap time (Away ∷ calls) = kept_tap time calls
-kept_tap time (Ask now side ∷ calls) = if repeats time (kept_tap time calls) now side then kept_tap time calls else Some (record { at = now; side = side })
+kept_tap time (Ask now side ∷ calls) =
+    if repeats time (kept_tap time calls) now side then kept_tap time calls else Some (record { at = now; side = side })
 
 -- whether the motion was away since
 abbrev pub was_away : ℕ → List Call → Bool
 was_away time [] = false
 was_away time (Away ∷ calls) = true
-was_away time (Ask now side ∷ calls) = if repeats time (kept_tap time calls) now side then was_away time calls else false
+was_away time (Ask now side ∷ calls) =
+    if repeats time (kept_tap time calls) now side then was_away time calls else false
 
 abbrev pub tap_answer : ℕ → List Call → ℕ → Side → GateAnswer
-tap_answer time calls now side = if repeats time (kept_tap time calls) now side && was_away time calls then Pass else Stay
+tap_answer time calls now side =
+    if repeats time (kept_tap time calls) now side && was_away time calls then Pass else Stay
 
 -- ---- a wait of that length
 
 -- an ask about the side that is waited for joins that wait, and any other one begins its own
 abbrev pub wait_of : ℕ → Option Waiting → ℕ → Side → Waiting
 wait_of delay None now side = record { side = side; due = now + delay }
-wait_of delay (Some wait) now side = if same_side wait.side side then wait else (record { side = side; due = now + delay })
+wait_of delay (Some wait) now side =
+    if same_side wait.side side then wait else (record { side = side; due = now + delay })
 
 -- the wait that was begun last, where the motion wasn't away since
 abbrev pub kept_wait : ℕ → List Call → Option Waiting
@@ -70,3 +74,20 @@ pub record StandsFor (gate : Gate) (delay time : ℕ) (calls : List Call) : Type
   pub tapped : 0 < time → gate.tapped ≡ kept_tap time calls
   pub away : 0 < time → gate.was_away ≡ was_away time calls
   pub waiting : gate.waiting ≡ gate_wait delay time calls
+
+-- ---- what a call does to a gate, whatever calls it stood for
+
+-- it stands for them and one more
+abbrev pub Hears : Gate → Gate → Call → Type 0
+Hears old new call = (delay time : ℕ) (calls : List Call) → StandsFor old delay time calls → StandsFor new delay time (call ∷ calls)
+
+-- it stands for none
+abbrev pub Forgets : Gate → Gate → Type 0
+Forgets old new = (delay time : ℕ) (calls : List Call) → StandsFor old delay time calls → StandsFor new delay time []
+
+abbrev pub Answers : Gate → ℕ → Side → GateAnswer → Type 0
+Answers gate now side answer =
+    (delay time : ℕ) (calls : List Call) → StandsFor gate delay time calls → answer ≡ gate_answer delay time calls now side
+
+abbrev pub TellsWait : Gate → Option Waiting → Type 0
+TellsWait gate wait = (delay time : ℕ) (calls : List Call) → StandsFor gate delay time calls → wait ≡ gate_wait delay time calls

@@ -4,7 +4,7 @@ use Rattle.share_base.specs.declared.shape.Side.{Side}
 use Rattle.share_base.specs.declared.shape.Side.TheVariants.{Left, Right, Up, Down}
 use Rattle.share_base.specs.declared.corners.Corners.{Corners}
 
--- the corner at a side's first pixel; a corner is top-left 1, top-right 2, bottom-left 4 or bottom-right 8
+-- the corner at a side's first pixel: top-left 1, top-right 2, bottom-left 4 or bottom-right 8
 abbrev pub near_corner : Side → ℕ
 near_corner Left = 1
 near_corner Right = 2
@@ -25,4 +25,5 @@ Lists corners corner = bit_and corners.set corner ≢ 0
 abbrev pub InCorner : Corners → Side → ℕ → ℕ → Type 0
 InCorner corners side p n =
     (0 < corners.size)
-    × (((p < corners.size) × Lists corners (near_corner side)) ⊎ ((n ≤ p + corners.size) × Lists corners (far_corner side)))
+    × (((p < corners.size) × Lists corners (near_corner side))
+    ⊎ ((n ≤ p + corners.size) × Lists corners (far_corner side)))

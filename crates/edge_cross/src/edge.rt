@@ -1,6 +1,6 @@
 //! Edges that a motion passes.
 
-ghost use Rattle.std.specs.Prelude.{◌≡◌, pos, negsuc, ◌-ℤ◌, ◌+ℤ◌, ◌<ℤ◌, ◌≤ℤ◌, IfSome};
+ghost use Rattle.std.specs.Prelude.{◌≡◌, pos, negsuc, ◌+ℤ◌, ◌<ℤ◌, ◌≤ℤ◌, IfSome};
 ghost use Rattle.share_base.specs.Shapes.{IsScreenShape};
 ghost use Rattle.edge_cross.specs.Edges as spec;
 ghost use Rattle.edge_cross.specs.Edges.{Leaves, side_length};

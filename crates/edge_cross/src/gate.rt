@@ -1,8 +1,8 @@
 //! The gate that is asked before the screens switch.
 
-ghost use Rattle.std.specs.Prelude.{◌≡◌, ◌^◌, ◌≤◌, List, ℕ, [], ◌∷◌};
+ghost use Rattle.std.specs.Prelude.{◌≡◌, ◌^◌, ◌≤◌, []};
 ghost use Rattle.edge_cross.specs.Gates as spec;
-ghost use Rattle.edge_cross.specs.Gates.{Call, Ask, Away, StandsFor, gate_answer, gate_wait};
+ghost use Rattle.edge_cross.specs.Gates.{Ask, Away, StandsFor, Hears, Forgets, Answers, TellsWait};
 
 use share_base::Side;
 
@@ -68,8 +68,8 @@ impl Gate {
     /// 4,611,686,018,427,387,904.
     pub fn ask(&mut self, now: u64, side: Side) -> GateAnswer
         requires { now ≤ 2 ^ 62 }
-        ensures answers { (delay time : ℕ) (calls : List Call) → StandsFor self.old delay time calls → result ≡ gate_answer delay time calls now side }
-        ensures keeps { (delay time : ℕ) (calls : List Call) → StandsFor self.old delay time calls → StandsFor self.new delay time (Ask now side ∷ calls) }
+        ensures answers { Answers self.old now side result }
+        ensures keeps { Hears self.old self.new (Ask now side) }
     {
         if self.tap > 0 {
             if repeats(self.tap, self.tapped, now, side) {
@@ -93,7 +93,7 @@ impl Gate {
 
     /// Hears that the motion is away from the edge: a tap may now be repeated, and a wait ends.
     pub fn away(&mut self)
-        ensures { (delay time : ℕ) (calls : List Call) → StandsFor self.old delay time calls → StandsFor self.new delay time (Away ∷ calls) }
+        ensures { Hears self.old self.new Away }
     {
         self.was_away = true;
         self.waiting = None;
@@ -101,7 +101,7 @@ impl Gate {
 
     /// Forgets every tap and wait.
     pub fn reset(&mut self)
-        ensures { (delay time : ℕ) (calls : List Call) → StandsFor self.old delay time calls → StandsFor self.new delay time [] }
+        ensures { Forgets self.old self.new }
     {
         self.tapped = None;
         self.was_away = false;
@@ -110,7 +110,7 @@ impl Gate {
 
     /// The edge that is waited for, and when it is tried. `None` comes exactly where none is.
     pub fn due(&self) -> Option<Waiting>
-        ensures { (delay time : ℕ) (calls : List Call) → StandsFor self.now delay time calls → result ≡ gate_wait delay time calls }
+        ensures { TellsWait self.now result }
     {
         self.waiting
     }

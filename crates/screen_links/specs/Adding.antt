@@ -8,6 +8,9 @@ use Rattle.screen_links.specs.declared.links.LinkFault.{LinkFault}
 use Rattle.screen_links.specs.declared.links.LinkFault.TheVariants as fault
 use Rattle.screen_links.specs.Ranges.{IsGood, Meet}
 
+abbrev pub link_of : ScreenNo → Side → Range → ScreenNo → Range → Link
+link_of from side range to onto = record { from = from; side = side; range = range; to = to; onto = onto }
+
 -- a link stands on that side of that screen with a hundredth of that range
 pub record Blocks (link : Link) (from : ScreenNo) (side : Side) (range : Range) : Type 0 where
   pub same_screen : link.from ≡ from
@@ -21,9 +24,12 @@ Overlaps links from side range = Any (λ link. Blocks link from side range) link
 abbrev pub HasGoodRanges : Link → Type 0
 HasGoodRanges link = IsGood link.range × IsGood link.onto
 
--- no link blocks it
+-- a link shares a hundredth of its range
+abbrev pub IsBlocked : List Link → Link → Type 0
+IsBlocked links link = Overlaps links link.from link.side link.range
+
 abbrev pub IsFree : List Link → Link → Type 0
-IsFree links link = Overlaps links link.from link.side link.range → ⊥
+IsFree links link = IsBlocked links link → ⊥
 
 -- how many links are held at most
 abbrev pub most : ℕ
@@ -31,8 +37,10 @@ most = 1024
 
 -- the answer's cause, and the links after it: with the new one at the end, or as they were
 abbrev pub Adds : Result (Unit {0}) LinkFault → List Link → Link → List Link → Type 0
-Adds (Ok _) old link new = HasGoodRanges link × IsFree old link × (length old < most) × (new ≡ old ++ link ∷ [])
+Adds (Ok _) old link new =
+    HasGoodRanges link × IsFree old link × (length old < most) × (new ≡ old ++ link ∷ [])
 Adds (Err fault.BadRange) old link new = (HasGoodRanges link → ⊥) × (new ≡ old)
-Adds (Err fault.Overlap) old link new = HasGoodRanges link × Overlaps old link.from link.side link.range × (new ≡ old)
+Adds (Err fault.Overlap) old link new = HasGoodRanges link × IsBlocked old link × (new ≡ old)
 Adds (Err fault.Full) old link new = HasGoodRanges link × IsFree old link × (length old ≡ most) × (new ≡ old)
-Adds (Err fault.OutOfMemory) old link new = HasGoodRanges link × IsFree old link × (length old < most) × (new ≡ old)
+Adds (Err fault.OutOfMemory) old link new =
+    HasGoodRanges link × IsFree old link × (length old < most) × (new ≡ old)

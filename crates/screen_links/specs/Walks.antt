@@ -1,5 +1,5 @@
 -- A walk over links, from a place on a side of a screen to the next screen that is there.
-use Rattle.std.specs.Prelude.{◌≡◌, ◌≢◌, ℕ, ◌+◌, ◌-◌, ◌*◌, ◌/◌, ◌<◌, ◌≤◌, Bool, true, false, List, [], ◌∷◌, ◌++◌, map, All, AllPairs, Contains}
+use Rattle.std.specs.Prelude.{◌≡◌, ◌≢◌, ◌↔◌, Option, Some, ℕ, ◌+◌, ◌-◌, ◌*◌, ◌/◌, ◌<◌, ◌≤◌, Bool, true, false, List, [], ◌∷◌, ◌++◌, map, All, AllPairs, Contains}
 use Rattle.share_base.specs.declared.numbers.ScreenNo.{ScreenNo}
 use Rattle.share_base.specs.declared.shape.Side.{Side}
 use Rattle.share_base.specs.Screens.{has}
@@ -13,7 +13,8 @@ pub record Holds (link : Link) (t : ℕ) : Type 0 where
 
 -- the place as far along the one range as t is along the other
 abbrev pub place_after : Link → ℕ → ℕ
-place_after link t = 10000 * link.onto.a + (t - 10000 * link.range.a) * (link.onto.b - link.onto.a) / (link.range.b - link.range.a)
+place_after link t =
+    10000 * link.onto.a + (t - 10000 * link.range.a) * (link.onto.b - link.onto.a) / (link.range.b - link.range.a)
 
 abbrev pub landing_of : Link → ℕ → Landing
 landing_of link t = record { screen = link.to; t = place_after link t }
@@ -46,3 +47,11 @@ pub record Across (links : List Link) (joined : ℕ) (side : Side) (at landing :
   pub distinct : AreDistinct (at.screen.0 ∷ named (middle ++ last ∷ []))
   pub passes : All (λ link. has joined link.to.0 ≡ false) middle
   pub joins : has joined last.to.0 ≡ true
+
+-- the answer is the one landing of a walk, and none where no walk has a landing
+abbrev pub Lands : List Link → ℕ → Side → Landing → Option Landing → Type 0
+Lands links joined side at answer = (landing : Landing) → (answer ≡ Some landing) ↔ Across links joined side at landing
+
+-- the landing is on a screen, and on its side
+abbrev pub IsPlace : Landing → Type 0
+IsPlace landing = (landing.screen.0 < 64) × (landing.t < 1000000)

@@ -1,9 +1,8 @@
 //! All links, in the order in which they were added.
 
-ghost use Rattle.std.specs.Prelude.{◌≡◌, ◌<◌, ◌↔◌, IsTrue, IfSome, [], Some};
-ghost use Rattle.screen_links.specs.Adding.{Overlaps, Adds};
-ghost use Rattle.screen_links.specs.Walks.{Across};
-ghost use Rattle.screen_links.specs.declared.link.Landing.{Landing as Place};
+ghost use Rattle.std.specs.Prelude.{◌≡◌, ◌<◌, ◌↔◌, IsTrue, IfSome, []};
+ghost use Rattle.screen_links.specs.Adding.{Overlaps, Adds, link_of};
+ghost use Rattle.screen_links.specs.Walks.{Lands, IsPlace};
 
 use crate::link::{Landing, Link};
 use crate::range::Range;
@@ -69,7 +68,7 @@ impl Links {
     ) -> Result<(), LinkFault>
         requires leaves_a_screen { from.0 < 64 }
         requires enters_a_screen { to.0 < 64 }
-        ensures { Adds result self.old (record { from = from; side = side; range = range; to = to; onto = onto }) self.new }
+        ensures { Adds result self.old (link_of from side range to onto) self.new }
     {
         if !range.is_good() || !onto.is_good() {
             return Err(LinkFault::BadRange);
@@ -100,8 +99,8 @@ impl Links {
     pub fn across(&self, joined: &ScreenSet, from: ScreenNo, side: Side, t: u32) -> Option<Landing>
         requires from_a_screen { from.0 < 64 }
         requires in_the_side { t < 1000000 }
-        ensures walks { (landing : Place) → (result ≡ Some landing) ↔ Across self.now joined.now side (record { screen = from; t = t }) landing }
-        ensures within { IfSome result (λ landing. (landing.screen.0 < 64) × (landing.t < 1000000)) }
+        ensures walks { Lands self.now joined.now side (record { screen = from; t = t }) result }
+        ensures within { IfSome result IsPlace }
     {
         let at = Landing { screen: from, t };
         walk(self.links.as_slice(), joined, side, at)

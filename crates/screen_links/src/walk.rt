@@ -1,10 +1,9 @@
 //! The walk over links.
 
-ghost use Rattle.std.specs.Prelude.{◌≡◌, ◌<◌, ◌↔◌, Some, IfSome, IfNone, Contains};
+ghost use Rattle.std.specs.Prelude.{IfSome, IfNone, Contains};
 ghost use Rattle.screen_links.specs.Apart.{AreSound};
-ghost use Rattle.screen_links.specs.Walks.{Across, Leaves};
+ghost use Rattle.screen_links.specs.Walks.{Lands, IsPlace, Leaves};
 ghost use Rattle.screen_links.specs.declared.link.Link.{Link as OneLink};
-ghost use Rattle.screen_links.specs.declared.link.Landing.{Landing as Place};
 
 use crate::link::{Landing, Link};
 use share_base::{ScreenSet, Side};
@@ -13,10 +12,9 @@ use share_base::{ScreenSet, Side};
 /// where it comes to one again, so it follows at most 64 links.
 pub(crate) fn walk(links: &[Link], joined: &ScreenSet, side: Side, from: Landing) -> Option<Landing>
     requires sound { AreSound links.now }
-    requires from_a_screen { from.screen.0 < 64 }
-    requires in_the_side { from.t < 1000000 }
-    ensures walks { (landing : Place) → (result ≡ Some landing) ↔ Across links.now joined.now side from landing }
-    ensures within { IfSome result (λ landing. (landing.screen.0 < 64) × (landing.t < 1000000)) }
+    requires place { IsPlace from }
+    ensures walks { Lands links.now joined.now side from result }
+    ensures within { IfSome result IsPlace }
 {
     let mut seen = ScreenSet::new();
     seen.insert(from.screen);

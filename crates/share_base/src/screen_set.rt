@@ -1,6 +1,6 @@
 //! Sets of screens.
 
-ghost use Rattle.std.specs.Prelude.{◌≡◌, ◌<◌, ◌==◌, ◌||◌, ◌&&◌, not, true, false, ℕ};
+ghost use Rattle.std.specs.Prelude.{◌≡◌, ◌<◌, ◌==◌, ◌||◌, ◌&&◌, not, false, ℕ};
 ghost use Rattle.share_base.specs.Screens.{has};
 
 use crate::numbers::ScreenNo;
