@@ -1,12 +1,13 @@
 //! What every other crate stands on: lists of bytes and of words, a fixed buffer of printed lines, decimal
 //! numbers, the small types that name keys, buttons, screens, sides, shapes, clipboards and reasons,
-//! and the outside as two traits, `Source` and `Sink`, with forms of them in memory.
+//! sets of screens, and the outside as two traits, `Source` and `Sink`, with forms of them in memory.
 //!
 //! It owns the words for what an outside tells and counts (`specs/Told.antt`, `specs/Counts.antt`).
 //! It may know no frame, no message and no command.
 #![tactic(auto)]
 
 mod clip_id;
+mod corners;
 mod decimal;
 mod lines;
 mod memory_sink;
@@ -15,6 +16,7 @@ mod numbers;
 mod octets;
 mod out_of_memory;
 mod reason;
+mod screen_set;
 mod shape;
 mod sink;
 mod source;
@@ -23,6 +25,7 @@ mod tests;
 mod words32;
 
 pub use clip_id::ClipId;
+pub use corners::Corners;
 pub use decimal::{put_i16, put_u16, put_u32, put_u64};
 pub use lines::Lines;
 pub use memory_sink::MemorySink;
@@ -31,6 +34,7 @@ pub use numbers::{Button, KeyId, Mask, MouseButton, RuleNo, ScreenNo};
 pub use octets::Octets;
 pub use out_of_memory::OutOfMemory;
 pub use reason::Reason;
+pub use screen_set::ScreenSet;
 pub use shape::{Shape, Side};
 pub use sink::{Sink, SinkAnswer, write_all};
 pub use source::{Source, SourceAnswer};
