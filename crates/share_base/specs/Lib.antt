@@ -5,3 +5,5 @@ pub mod Writing
 pub mod Memory
 pub mod Clips
 pub mod Reasons
+pub mod Names
+pub mod Stored

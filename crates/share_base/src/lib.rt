@@ -8,13 +8,16 @@
 
 mod clip_id;
 mod decimal;
+mod files;
 mod lines;
+mod memory_files;
 mod memory_sink;
 mod memory_source;
 mod numbers;
 mod octets;
 mod out_of_memory;
 mod reason;
+mod screen_name;
 mod shape;
 mod sink;
 mod source;
@@ -22,14 +25,17 @@ mod source;
 mod tests;
 
 pub use clip_id::ClipId;
+pub use files::{FileAnswer, Files};
 pub use decimal::{put_i16, put_u16, put_u32, put_u64};
 pub use lines::Lines;
+pub use memory_files::{MemoryFiles, NamedFile};
 pub use memory_sink::MemorySink;
 pub use memory_source::MemorySource;
 pub use numbers::{Button, KeyId, Mask, MouseButton, RuleNo, ScreenNo};
 pub use octets::Octets;
 pub use out_of_memory::OutOfMemory;
 pub use reason::Reason;
+pub use screen_name::ScreenName;
 pub use shape::{Shape, Side};
 pub use sink::{Sink, SinkAnswer, write_all};
 pub use source::{Source, SourceAnswer};
