@@ -1,2 +1,3 @@
 pub mod ToldLists
 pub mod Digits
+pub mod ScreenBits

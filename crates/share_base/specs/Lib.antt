@@ -7,3 +7,4 @@ pub mod Clips
 pub mod Reasons
 pub mod Names
 pub mod Stored
+pub mod Screens

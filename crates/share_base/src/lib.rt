@@ -1,6 +1,6 @@
 //! What every other crate stands on: lists of bytes, a fixed buffer of printed lines, decimal
 //! numbers, the small types that name keys, buttons, screens, sides, shapes, clipboards and reasons,
-//! and the outside as two traits, `Source` and `Sink`, with forms of them in memory.
+//! sets of screens, and the outside as two traits, `Source` and `Sink`, with forms of them in memory.
 //!
 //! It owns the words for what an outside tells and counts (`specs/Told.antt`, `specs/Counts.antt`).
 //! It may know no frame, no message and no command.
@@ -18,6 +18,7 @@ mod octets;
 mod out_of_memory;
 mod reason;
 mod screen_name;
+mod screen_set;
 mod shape;
 mod sink;
 mod source;
@@ -36,6 +37,7 @@ pub use octets::Octets;
 pub use out_of_memory::OutOfMemory;
 pub use reason::Reason;
 pub use screen_name::ScreenName;
+pub use screen_set::ScreenSet;
 pub use shape::{Shape, Side};
 pub use sink::{Sink, SinkAnswer, write_all};
 pub use source::{Source, SourceAnswer};
