@@ -1,5 +1,5 @@
 -- Kinds of bytes, and the longest front of one kind.
-use Rattle.std.specs.Prelude.{ℕ, Bool, not, ◌==◌, ◌&&◌, ◌||◌, nat_le, if◌then◌else◌, List, [], ◌∷◌, take, drop}
+use Rattle.std.specs.Prelude.{ℕ, Bool, true, not, ◌==◌, ◌&&◌, ◌||◌, nat_le, if◌then◌else◌, List, [], ◌∷◌, take, drop}
 use Rattle.std.specs.List.{prefix_len}
 use Rattle.std.specs.Char.{is_ascii_alphanumeric}
 use Rattle.text_lines.specs.declared.bytes.WordKind.{WordKind}
@@ -31,3 +31,8 @@ behind p xs = drop (prefix_len p xs) xs
 abbrev pub unblanked : List ℕ → List ℕ
 unblanked [] = []
 unblanked (b ∷ bs) = if is_blank b then unblanked bs else b ∷ bs
+
+-- no blank stands at the front
+abbrev pub is_tight : List ℕ → Bool
+is_tight [] = true
+is_tight (b ∷ bs) = not (is_blank b)

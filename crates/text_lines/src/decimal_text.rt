@@ -1,11 +1,12 @@
 //! Numbers as texts spell them.
 
-ghost use Rattle.std.specs.Prelude.{◌≡◌};
+ghost use Rattle.std.specs.Prelude.{◌≡◌, ◌≤◌, IfSome};
 ghost use Rattle.text_lines.specs.Numbers.{digits_from, decimal_of};
 
 #[tactic(auto, unfolding(crate::specs::Numbers::digits_from))]
 fn digits(text: &[u8], max: u32) -> Option<u32>
-    ensures { result ≡ digits_from max 0 text.now }
+    ensures value { result ≡ digits_from max 0 text.now }
+    ensures bound { IfSome result (λ n. n ≤ max) }
 {
     let mut number: u64 = 0;
     let mut rest = text;
@@ -26,7 +27,8 @@ fn digits(text: &[u8], max: u32) -> Option<u32>
 /// exactly where it spells no such number.
 #[tactic(auto, unfolding(crate::specs::Numbers::decimal_of))]
 pub fn decimal(text: &[u8], max: u32) -> Option<u32>
-    ensures { result ≡ decimal_of max text.now }
+    ensures value { result ≡ decimal_of max text.now }
+    ensures bound { IfSome result (λ n. n ≤ max) }
 {
     match text {
         [] => None,
