@@ -1,0 +1,11 @@
+pub mod Accepting
+pub mod Answering
+pub mod Configurations
+pub mod Drafts
+pub mod Judging
+pub mod Lines
+pub mod Sections
+pub mod Seen
+pub mod Shapes
+pub mod Sides
+pub mod Sound
