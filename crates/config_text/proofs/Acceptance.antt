@@ -51,7 +51,7 @@ unfolding read_lines
 stops n d [] r h = absurd cc
 stops n d (l ∷ ls) r h =
     elim (after_bad (judged n d l) (λ m. read_lines (n + 1) m ls) r h) [
-      | inl e ↦ record { above = []; line = l; below = ls; draft = d; parts = refl; good = refl; bad = ap (λ (k : ℕ). judged k d l) zero-add ∙ e }
+      | inl e ↦ record { above = []; line = l; below = ls; draft = d; parts = refl; good = refl; bad = ap (λ (k : ℕ). judged k d l) (zero-add n) ∙ e }
       | inr b ↦
           let s = stops (n + 1) b.0 ls r b.2 in
           let m : length s.above + (n + 1) ≡ length (l ∷ s.above) + n = omega arith in

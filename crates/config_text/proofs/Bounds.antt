@@ -1,5 +1,5 @@
 -- Numbers of screens stay below the count of screens.
-use Rattle.std.proofs.Common.{◌≡◌, ℕ, ◌+◌, ◌<◌, ◌≤◌, Bool, true, false, cond, ◌&&◌, List, [], ◌∷◌, length, Option, Some, None, refl, ap, sym, ◌∙◌, nat_lt, arith}
+use Rattle.std.proofs.Common.{◌≡◌, ℕ, ◌+◌, ◌<◌, ◌≤◌, Bool, true, false, cond, ◌&&◌, List, [], ◌∷◌, ◌++◌, length, length-append, Option, Some, None, refl, ap, sym, ◌∙◌, nat_lt, arith}
 use Rattle.std.specs.List.{list_all, find}
 use Rattle.std.specs.Option.{option_map}
 use Rattle.std.proofs.lemmas.Bool.{lt-ltb}
@@ -53,3 +53,6 @@ alias_known n [] name k h e = absurd cc
 alias_known n (a ∷ others) name k h e =
     let both = both_true (alias_below n a) (list_all (alias_below n) others) h in
     by_name (same_name a.name name) n a others name k both.0 (alias_known n others name k both.1) e
+
+pub length_pushed : {A : Type 0} (old new : List A) (x : A) → new ≡ old ++ x ∷ [] → length new ≡ length old + 1
+length_pushed old new x e = ap length e ∙ length-append old (x ∷ [])

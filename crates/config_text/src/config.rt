@@ -172,7 +172,8 @@ impl Config {
     pub(crate) fn set_own(&mut self, screen: u16, option: OptionName, value: u32)
         requires value { suits (row_of option).form value ≡ true }
         requires known { screen < length self.old.screens }
-        ensures { self.new ≡ with_own self.old screen option value }
+        ensures set { self.new ≡ with_own self.old screen option value }
+        ensures same_count { length self.new.screens ≡ length self.old.screens }
     {
         let own = &mut self.screens[screen as usize];
         own.settings.set(option, value);

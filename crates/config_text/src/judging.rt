@@ -1,6 +1,6 @@
 //! The faults of names and links in what the lines above gave.
 
-ghost use Rattle.std.specs.Prelude.{◌≡◌, ◌<◌, IfOk, length};
+ghost use Rattle.std.specs.Prelude.{◌≡◌, ◌<◌, ◌≤◌, ◌+◌, IfOk, OnOk, length};
 ghost use Rattle.text_lines.specs.Seen.{word_text};
 ghost use Rattle.screen_links.specs.Ranges.{IsGood};
 ghost use Rattle.config_text.specs.Answering.{Judges};
@@ -62,7 +62,9 @@ impl Config {
     /// A new screen, in whose line `whole` bytes stand.
     #[tactic(auto, unfolding(crate::specs::Judging::new_screen))]
     pub(crate) fn new_screen(&mut self, name: Word<'_>, whole: usize) -> Result<(), LineFault>
-        ensures { Judges (λ _. self.new) result (spec.new_screen whole self.old (word_text name.entry)) }
+        ensures judged { Judges (λ _. self.new) result (spec.new_screen whole self.old (word_text name.entry)) }
+        ensures one_more { OnOk result (length self.new.screens ≡ length self.old.screens + 1) }
+        ensures no_fewer { length self.old.screens ≤ length self.new.screens }
     {
         let Some(kept) = ScreenName::read(name.text) else {
             return refusal(ConfigKind::BadName, name.left);
@@ -88,7 +90,8 @@ impl Config {
         whole: usize,
     ) -> Result<(), LineFault>
         requires { screen < length self.old.screens }
-        ensures { Judges (λ _. self.new) result (spec.new_alias whole self.old screen (word_text name.entry)) }
+        ensures judged { Judges (λ _. self.new) result (spec.new_alias whole self.old screen (word_text name.entry)) }
+        ensures same_count { length self.new.screens ≡ length self.old.screens }
     {
         let Some(kept) = ScreenName::read(name.text) else {
             return refusal(ConfigKind::BadName, name.left);
@@ -114,7 +117,8 @@ impl Config {
         whole: usize,
     ) -> Result<(), LineFault>
         requires { from < length self.old.screens }
-        ensures { Judges (λ _. self.new) result (spec.new_link whole self.old from (link_text text.entry)) }
+        ensures judged { Judges (λ _. self.new) result (spec.new_link whole self.old from (link_text text.entry)) }
+        ensures same_count { length self.new.screens ≡ length self.old.screens }
     {
         let to = self.known_screen(text.name)?;
         let range = good_range(text.source)?;
