@@ -5,6 +5,8 @@ pub mod Drafts
 pub mod Judging
 pub mod Lines
 pub mod Sections
+pub mod Globals
+pub mod Normal
 pub mod Seen
 pub mod Shapes
 pub mod Sides

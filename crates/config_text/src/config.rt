@@ -22,10 +22,10 @@ use std::marker::Model;
 /// all screens. It is made by `parse` alone. Contracts see a `Configuration`.
 #[derive(Debug, Drop)]
 pub struct Config {
-    screens: Vec<Screen>,
-    aliases: Vec<Alias>,
-    links: Links,
-    settings: Settings,
+    pub(crate) screens: Vec<Screen>,
+    pub(crate) aliases: Vec<Alias>,
+    pub(crate) links: Links,
+    pub(crate) settings: Settings,
 }
 
 impl Model for Config {

@@ -10,6 +10,7 @@
 mod config;
 mod drafts;
 mod faults;
+mod globals;
 mod judging;
 mod parsing;
 mod screens;
@@ -22,4 +23,5 @@ mod words;
 
 pub use config::Config;
 pub use faults::{ConfigFault, ConfigKind, ConfigRefusal};
+pub use globals::{Corners, Globals, Protocol};
 pub use parsing::parse;

@@ -27,3 +27,12 @@ row_suits (Some option) v = suits (row_of option).form v
 -- each value is one of its row's form
 abbrev pub AreSuited : Values → Type 0
 AreSuited values = (n v : ℕ) → slice_get values n ≡ Some (Some v) → row_suits (slice_get options n) v ≡ true
+
+-- the value that stands: the one that is set, or the row's default
+abbrev pub standing : Values → OptionName → ℕ
+standing values option = unwrap_or (setting values option) (row_of option).default
+
+-- a screen's own value stands in place of that for all
+abbrev pub own_or_all : Option ℕ → Option ℕ → Option ℕ
+own_or_all None all = all
+own_or_all (Some own) all = Some own

@@ -68,8 +68,15 @@ impl CornerWord {
         }
     }
 
+    /// Its text.
+    pub(crate) fn word(self) -> &'static [u8]
+        ensures { result.now ≡ (corner_of self).word }
+    {
+        self.row().word.as_bytes()
+    }
+
     /// The corners that it names: the sum of top-left 1, top-right 2, bottom-left 4 and bottom-right 8.
-    fn corners(self) -> u32
+    pub(crate) fn corners(self) -> u32
         ensures corners { result ≡ (corner_of self).corners }
         ensures bound { result ≤ 15 }
     {

@@ -41,6 +41,17 @@ impl Settings {
         self.values[option.place()]
     }
 
+    /// The value that stands for an option: the one that is set, or its row's default.
+    pub fn value(&self, option: OptionName) -> u32
+        ensures value { result ≡ spec.standing self.now option }
+        ensures suits { suits (row_of option).form result ≡ true }
+    {
+        match self.get(option) {
+            Some(value) => value,
+            None => option.row().default,
+        }
+    }
+
     /// Sets an option to a value that suits its form. An earlier value is replaced.
     pub fn set(&mut self, option: OptionName, value: u32)
         requires { suits (row_of option).form value ≡ true }

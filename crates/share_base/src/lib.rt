@@ -24,6 +24,7 @@ mod sink;
 mod source;
 #[cfg(test)]
 mod tests;
+mod words32;
 
 pub use clip_id::ClipId;
 pub use files::{FileAnswer, Files};
@@ -41,3 +42,4 @@ pub use screen_set::ScreenSet;
 pub use shape::{Shape, Side};
 pub use sink::{Sink, SinkAnswer, write_all};
 pub use source::{Source, SourceAnswer};
+pub use words32::Words32;
