@@ -115,13 +115,22 @@ fn find_link(links: &[Link], from: u16, side: Side, a: u8) -> Option<&Link>
 
 impl Config {
     #[tactic(auto, unfolding(crate::specs::Normal::aliases_of))]
-    fn put_aliases_of(&self, alloc: Global, screen: u16, out: &mut Octets) -> Result<(), OutOfMemory>
+    fn put_aliases_of(
+        &self,
+        alloc: Global,
+        screen: u16,
+        out: &mut Octets,
+    ) -> Result<(), OutOfMemory>
         requires { screen < length self.now.screens }
         ensures { OnOk result (out.new ≡ out.old ++ spec.aliases_of self.now screen) }
     {
         let mut below = Octets::new(alloc);
         put_alias_lines(screen, self.aliases.as_slice(), &mut below)?;
-        put_block(self.name(ScreenNo(screen)).as_slice(), below.as_slice(), out)
+        put_block(
+            self.name(ScreenNo(screen)).as_slice(),
+            below.as_slice(),
+            out,
+        )
     }
 
     fn put_aliases(&self, alloc: Global, out: &mut Octets) -> Result<(), OutOfMemory>

@@ -60,6 +60,45 @@ section: options
 end
 ";
 
+const EVERY_OPTION: &[u8] = b"section: screens
+\ta:
+\t\thalfDuplexCapsLock = true
+\t\thalfDuplexNumLock = true
+\t\thalfDuplexScrollLock = true
+\t\tshift = none
+\t\tctrl = shift
+\t\talt = ctrl
+\t\tmeta = alt
+\t\tsuper = meta
+\t\txtestIsXineramaUnaware = false
+\t\tpreserveFocus = true
+\t\tswitchCorners = none +bottom-left
+\t\tswitchCornerSize = 32767
+end
+section: aliases
+end
+section: links
+end
+section: options
+\theartbeat = 3600000
+\tswitchDelay = 60000
+\tswitchDoubleTap = 1
+\tswitchCorners = none +top-left +top-right +bottom-left +bottom-right
+\tswitchCornerSize = 1
+\trelativeMouseMoves = true
+\tclipboardSharing = false
+\tclipboardSharingSize = 4096
+\tscreenSaverSync = false
+\tswitchNeedsShift = true
+\tswitchNeedsControl = true
+\tswitchNeedsAlt = true
+\twin32KeepForeground = false
+\tdisableLockToScreen = true
+\tdefaultLockToScreenState = true
+\tprotocol = barrier
+end
+";
+
 fn refused(line: u32, column: u32, kind: ConfigKind) -> Option<ConfigRefusal> {
     Some(ConfigRefusal { line, column, kind })
 }
@@ -83,43 +122,127 @@ fn is_accepted(rt: &HostRuntime, text: &[u8]) -> bool {
 
 #[test]
 fn each_kind_has_its_place(rt: HostRuntime) {
-    assert_eq!(rt; refusal(&rt, b"section: screens\n\t-a:"), refused(2, 2, ConfigKind::BadName));
-    assert_eq!(rt; refusal(&rt, b"section: screens\n\t:"), refused(2, 2, ConfigKind::BadName));
-    assert_eq!(rt; refusal(&rt, b"section: screens\n\tdesk:\n\tDESK:"), refused(3, 2, ConfigKind::DuplicateScreen));
-    assert_eq!(rt; refusal(&rt, b"section: screens"), refused(1, 1, ConfigKind::UnclosedSection));
-    assert_eq!(rt; refusal(&rt, b"section: screen"), refused(1, 10, ConfigKind::UnknownSection));
-    assert_eq!(rt; refusal(&rt, b"section: aliases\n\tdesk:"), refused(2, 2, ConfigKind::UnknownScreen));
-    assert_eq!(rt; refusal(&rt, b"section: screens\na:\nend\nsection: aliases\na:\nA"), refused(6, 1, ConfigKind::DuplicateAlias));
-    assert_eq!(rt; refusal(&rt, b"section: screens\na:\nend\nsection: links\na:\nleft(50,50)=a"), refused(6, 5, ConfigKind::BadRange));
-    assert_eq!(rt; refusal(&rt, b"section: options\nshift = ctrl"), refused(2, 1, ConfigKind::UnknownOption));
-    assert_eq!(rt; refusal(&rt, b"section: options\nheartbeat = \nend"), refused(2, 12, ConfigKind::BadValue));
-    assert_eq!(rt; refusal(&rt, b"section: options\nheartbeat = 05"), refused(2, 13, ConfigKind::BadValue));
+    assert_eq!(rt;
+        refusal(&rt, b"section: screens\n\t-a:"),
+        refused(2, 2, ConfigKind::BadName)
+    );
+    assert_eq!(rt;
+        refusal(&rt, b"section: screens\n\t:"),
+        refused(2, 2, ConfigKind::BadName)
+    );
+    assert_eq!(rt;
+        refusal(&rt, b"section: screens\n\tdesk:\n\tDESK:"),
+        refused(3, 2, ConfigKind::DuplicateScreen)
+    );
+    assert_eq!(rt;
+        refusal(&rt, b"section: screens"),
+        refused(1, 1, ConfigKind::UnclosedSection)
+    );
+    assert_eq!(rt;
+        refusal(&rt, b"section: screen"),
+        refused(1, 10, ConfigKind::UnknownSection)
+    );
+    assert_eq!(rt;
+        refusal(&rt, b"section: aliases\n\tdesk:"),
+        refused(2, 2, ConfigKind::UnknownScreen)
+    );
+    assert_eq!(rt;
+        refusal(&rt, b"section: screens\na:\nend\nsection: aliases\na:\nA"),
+        refused(6, 1, ConfigKind::DuplicateAlias)
+    );
+    assert_eq!(rt;
+        refusal(
+            &rt,
+            b"section: screens\na:\nend\nsection: links\na:\nleft(50,50)=a"
+        ),
+        refused(6, 5, ConfigKind::BadRange)
+    );
+    assert_eq!(rt;
+        refusal(&rt, b"section: options\nshift = ctrl"),
+        refused(2, 1, ConfigKind::UnknownOption)
+    );
+    assert_eq!(rt;
+        refusal(&rt, b"section: options\nheartbeat = \nend"),
+        refused(2, 12, ConfigKind::BadValue)
+    );
+    assert_eq!(rt;
+        refusal(&rt, b"section: options\nheartbeat = 05"),
+        refused(2, 13, ConfigKind::BadValue)
+    );
 }
 
 #[test]
 fn a_bad_line_stands_where_it_cannot_go_on(rt: HostRuntime) {
-    assert_eq!(rt; refusal(&rt, b"sections: x"), refused(1, 8, ConfigKind::BadLine));
-    assert_eq!(rt; refusal(&rt, b"screens:"), refused(1, 2, ConfigKind::BadLine));
-    assert_eq!(rt; refusal(&rt, b"section:"), refused(1, 9, ConfigKind::BadLine));
-    assert_eq!(rt; refusal(&rt, b"section: options\na:"), refused(2, 1, ConfigKind::BadLine));
-    assert_eq!(rt; refusal(&rt, b"section: screens\nshift = none"), refused(2, 1, ConfigKind::BadLine));
-    assert_eq!(rt; refusal(&rt, b"section: options\nkeystroke (a) = "), refused(2, 11, ConfigKind::BadLine));
-    assert_eq!(rt; refusal(&rt, b"section: screens\na:\nend\nsection: links\na:\nleft(007,9)=a"), refused(6, 7, ConfigKind::BadLine));
-    assert_eq!(rt; refusal(&rt, b"section: screens\n\ta\x01:"), refused(2, 3, ConfigKind::BadLine));
-    assert_eq!(rt; refusal(&rt, b"section: screens\nend\r"), refused(2, 4, ConfigKind::BadLine));
+    assert_eq!(rt;
+        refusal(&rt, b"sections: x"),
+        refused(1, 8, ConfigKind::BadLine)
+    );
+    assert_eq!(rt;
+        refusal(&rt, b"screens:"),
+        refused(1, 2, ConfigKind::BadLine)
+    );
+    assert_eq!(rt;
+        refusal(&rt, b"section:"),
+        refused(1, 9, ConfigKind::BadLine)
+    );
+    assert_eq!(rt;
+        refusal(&rt, b"section: options\na:"),
+        refused(2, 1, ConfigKind::BadLine)
+    );
+    assert_eq!(rt;
+        refusal(&rt, b"section: screens\nshift = none"),
+        refused(2, 1, ConfigKind::BadLine)
+    );
+    assert_eq!(rt;
+        refusal(&rt, b"section: options\nkeystroke (a) = "),
+        refused(2, 11, ConfigKind::BadLine)
+    );
+    assert_eq!(rt;
+        refusal(
+            &rt,
+            b"section: screens\na:\nend\nsection: links\na:\nleft(007,9)=a"
+        ),
+        refused(6, 7, ConfigKind::BadLine)
+    );
+    assert_eq!(rt;
+        refusal(&rt, b"section: screens\n\ta\x01:"),
+        refused(2, 3, ConfigKind::BadLine)
+    );
+    assert_eq!(rt;
+        refusal(&rt, b"section: screens\nend\r"),
+        refused(2, 4, ConfigKind::BadLine)
+    );
 }
 
 #[test]
 fn classes_come_in_their_order(rt: HostRuntime) {
-    assert_eq!(rt; refusal(&rt, b"section: screens\na:\nend\nsection: links\na:\nleft(9,1) = -x"), refused(6, 13, ConfigKind::BadName));
-    assert_eq!(rt; refusal(&rt, b"section: screens\na:\nend\nsection: links\na:\nleft(9,1) = x"), refused(6, 13, ConfigKind::UnknownScreen));
     assert_eq!(rt;
-        refusal(&rt, b"section: screens\n\tdesk:\nend\nsection: links\n\tdesk:\n\t\tright(0,60) = desk\n\t\tright(50,100) = desk\nend"),
+        refusal(
+            &rt,
+            b"section: screens\na:\nend\nsection: links\na:\nleft(9,1) = -x"
+        ),
+        refused(6, 13, ConfigKind::BadName)
+    );
+    assert_eq!(rt;
+        refusal(
+            &rt,
+            b"section: screens\na:\nend\nsection: links\na:\nleft(9,1) = x"
+        ),
+        refused(6, 13, ConfigKind::UnknownScreen)
+    );
+    assert_eq!(rt;
+        refusal(
+            &rt,
+            b"section: screens\n\tdesk:\nend\nsection: links\n\tdesk:\n\t\tright(0,60) = desk\n\t\tright(50,100) = desk\nend"
+        ),
         refused(7, 3, ConfigKind::Overlap)
     );
     assert_eq!(rt;
-        refusal(&rt, b"section: screens\n\tdesk:\nend\nsection: links\n\tdesk:\n\t\tright(0,60) = desk\n\t\tright(50,100) = desk(5,5)\nend"),
-        refused(7, 24, ConfigKind::BadRange)
+        refusal(
+            &rt,
+            b"section: screens\n\tdesk:\nend\nsection: links\n\tdesk:\n\t\tright(0,60) = desk\n\t\tright(50,100) = desk(5,5)\nend"
+        ),
+        refused(7, 23, ConfigKind::BadRange)
     );
 }
 
@@ -136,6 +259,15 @@ fn the_normal_form_is_printed(rt: HostRuntime) -> Result<(), Fail> {
     let mut out = Octets::new(rt.alloc());
     print(rt.alloc(), &config, &mut out)?;
     assert_eq!(rt; out.as_slice(), THREE_AGAIN);
+    Ok(())
+}
+
+#[test]
+fn every_option_is_read_and_printed(rt: HostRuntime) -> Result<(), Fail> {
+    let config = parse(rt.alloc(), EVERY_OPTION)?;
+    let mut out = Octets::new(rt.alloc());
+    print(rt.alloc(), &config, &mut out)?;
+    assert_eq!(rt; out.as_slice(), EVERY_OPTION);
     Ok(())
 }
 
@@ -164,7 +296,10 @@ fn a_65th_screen_is_too_many(rt: HostRuntime) -> Result<(), Fail> {
         put_number(n, &mut text)?;
         text.extend(b":\n")?;
     }
-    assert_eq!(rt; refusal(&rt, text.as_slice()), refused(66, 2, ConfigKind::TooMany));
+    assert_eq!(rt;
+        refusal(&rt, text.as_slice()),
+        refused(66, 2, ConfigKind::TooMany)
+    );
     Ok(())
 }
 
@@ -177,7 +312,10 @@ fn a_257th_alias_is_too_many(rt: HostRuntime) -> Result<(), Fail> {
         put_number(n, &mut text)?;
         text.extend(b"\n")?;
     }
-    assert_eq!(rt; refusal(&rt, text.as_slice()), refused(262, 3, ConfigKind::TooMany));
+    assert_eq!(rt;
+        refusal(&rt, text.as_slice()),
+        refused(262, 3, ConfigKind::TooMany)
+    );
     Ok(())
 }
 
@@ -205,6 +343,9 @@ fn a_1025th_link_is_too_many(rt: HostRuntime) -> Result<(), Fail> {
     }
     // Line 14 opens the section; each screen then has 101 lines, and the 1,025th link is the 25th of the
     // eleventh screen.
-    assert_eq!(rt; refusal(&rt, text.as_slice()), refused(1050, 1, ConfigKind::TooMany));
+    assert_eq!(rt;
+        refusal(&rt, text.as_slice()),
+        refused(1050, 1, ConfigKind::TooMany)
+    );
     Ok(())
 }

@@ -27,8 +27,8 @@ mod tests;
 mod words32;
 
 pub use clip_id::ClipId;
-pub use files::{FileAnswer, Files};
 pub use decimal::{put_i16, put_u16, put_u32, put_u64};
+pub use files::{FileAnswer, Files};
 pub use lines::Lines;
 pub use memory_files::{MemoryFiles, NamedFile};
 pub use memory_sink::MemorySink;
