@@ -10,6 +10,7 @@ ghost use Rattle.option_table.specs.Values.{suits};
 ghost use Rattle.config_text.specs.Configurations as spec;
 ghost use Rattle.config_text.specs.Configurations.{nothing, screen_of, screen_place, alias_place, with_screen, with_alias, with_global, with_own};
 ghost use Rattle.config_text.specs.Judging.{link_of};
+ghost use Rattle.config_text.specs.Sound.{IsSound};
 
 use crate::screens::{Alias, Screen};
 use option_table::{OptionName, Settings};
@@ -86,10 +87,12 @@ impl Config {
         }
     }
 
-    /// How many screens there are, at most 64. Their numbers are those below.
+    /// How many screens there are, at most 64. Their numbers are those below; each number of a screen in
+    /// the configuration is one of them.
     pub fn count(&self) -> u16
         ensures count { result ≡ length self.now.screens }
         ensures bound { length self.now.screens ≤ 64 }
+        ensures sound { IsSound self.now }
     {
         self.screens.len() as u16
     }

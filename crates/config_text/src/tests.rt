@@ -1,9 +1,109 @@
 use super::*;
 use option_table::put_number;
-use share_base::{Octets, Words32};
+use share_base::{Octets, OutOfMemory, Words32};
 use std::test::*;
 
-const THREE: &[u8] = b"# three desks
+/// A text that is refused, with its line, column and kind.
+#[derive(Clone, Copy)]
+struct Refused(&'static [u8], u32, u32, ConfigKind);
+
+// Rows and long texts stand in functions, whose results no proof looks into.
+fn refused_texts() -> [Refused; 24] {
+    [
+        Refused(b"section: screens\n\t-a:", 2, 2, ConfigKind::BadName),
+        Refused(b"section: screens\n\t:", 2, 2, ConfigKind::BadName),
+        Refused(
+            b"section: screens\n\tdesk:\n\tDESK:",
+            3,
+            2,
+            ConfigKind::DuplicateScreen,
+        ),
+        Refused(b"section: screens", 1, 1, ConfigKind::UnclosedSection),
+        Refused(b"section: screen", 1, 10, ConfigKind::UnknownSection),
+        Refused(
+            b"section: aliases\n\tdesk:",
+            2,
+            2,
+            ConfigKind::UnknownScreen,
+        ),
+        Refused(
+            b"section: screens\na:\nend\nsection: aliases\na:\nA",
+            6,
+            1,
+            ConfigKind::DuplicateAlias,
+        ),
+        Refused(
+            b"section: screens\na:\nend\nsection: links\na:\nleft(50,50)=a",
+            6,
+            5,
+            ConfigKind::BadRange,
+        ),
+        Refused(
+            b"section: options\nshift = ctrl",
+            2,
+            1,
+            ConfigKind::UnknownOption,
+        ),
+        Refused(
+            b"section: options\nheartbeat = \nend",
+            2,
+            12,
+            ConfigKind::BadValue,
+        ),
+        Refused(
+            b"section: options\nheartbeat = 05",
+            2,
+            13,
+            ConfigKind::BadValue,
+        ),
+        Refused(b"sections: x", 1, 8, ConfigKind::BadLine),
+        Refused(b"screens:", 1, 2, ConfigKind::BadLine),
+        Refused(b"section:", 1, 9, ConfigKind::BadLine),
+        Refused(b"section: options\na:", 2, 1, ConfigKind::BadLine),
+        Refused(b"section: screens\nshift = none", 2, 1, ConfigKind::BadLine),
+        Refused(
+            b"section: options\nkeystroke (a) = ",
+            2,
+            11,
+            ConfigKind::BadLine,
+        ),
+        Refused(
+            b"section: screens\na:\nend\nsection: links\na:\nleft(007,9)=a",
+            6,
+            7,
+            ConfigKind::BadLine,
+        ),
+        Refused(b"section: screens\n\ta\x01:", 2, 3, ConfigKind::BadLine),
+        Refused(b"section: screens\nend\r", 2, 4, ConfigKind::BadLine),
+        Refused(
+            b"section: screens\na:\nend\nsection: links\na:\nleft(9,1) = -x",
+            6,
+            13,
+            ConfigKind::BadName,
+        ),
+        Refused(
+            b"section: screens\na:\nend\nsection: links\na:\nleft(9,1) = x",
+            6,
+            13,
+            ConfigKind::UnknownScreen,
+        ),
+        Refused(
+            b"section: screens\n\tdesk:\nend\nsection: links\n\tdesk:\n\t\tright(0,60) = desk\n\t\tright(50,100) = desk\nend",
+            7,
+            3,
+            ConfigKind::Overlap,
+        ),
+        Refused(
+            b"section: screens\n\tdesk:\nend\nsection: links\n\tdesk:\n\t\tright(0,60) = desk\n\t\tright(50,100) = desk(5,5)\nend",
+            7,
+            23,
+            ConfigKind::BadRange,
+        ),
+    ]
+}
+
+fn three_screens() -> &'static [u8] {
+    b"# three desks
 section: screens
 \tdesk:
 \t\thalfDuplexCapsLock = false
@@ -30,9 +130,11 @@ section: options
 \theartbeat = 5000
 \tswitchDelay = 250
 end
-";
+"
+}
 
-const THREE_AGAIN: &[u8] = b"section: screens
+fn three_screens_again() -> &'static [u8] {
+    b"section: screens
 \tdesk:
 \t\thalfDuplexCapsLock = false
 \t\tswitchCorners = none +top-left
@@ -58,9 +160,11 @@ section: options
 \theartbeat = 5000
 \tswitchDelay = 250
 end
-";
+"
+}
 
-const EVERY_OPTION: &[u8] = b"section: screens
+fn every_option() -> &'static [u8] {
+    b"section: screens
 \ta:
 \t\thalfDuplexCapsLock = true
 \t\thalfDuplexNumLock = true
@@ -97,10 +201,7 @@ section: options
 \tdefaultLockToScreenState = true
 \tprotocol = barrier
 end
-";
-
-fn refused(line: u32, column: u32, kind: ConfigKind) -> Option<ConfigRefusal> {
-    Some(ConfigRefusal { line, column, kind })
+"
 }
 
 fn refusal(rt: &HostRuntime, text: &[u8]) -> Option<ConfigRefusal> {
@@ -113,171 +214,58 @@ fn refusal(rt: &HostRuntime, text: &[u8]) -> Option<ConfigRefusal> {
     }
 }
 
-fn is_accepted(rt: &HostRuntime, text: &[u8]) -> bool {
+fn read(rt: &HostRuntime, text: &[u8]) -> Result<Config, ConfigFault> {
     if text.len() > 1_000_000 {
-        return false;
+        return Err(ConfigFault::OutOfMemory);
     }
-    parse(rt.alloc(), text).is_ok()
+    parse(rt.alloc(), text)
+}
+
+fn printed(rt: &HostRuntime, text: &[u8]) -> Result<Octets, Fail> {
+    let config = read(rt, text)?;
+    let mut out = Octets::new(rt.alloc());
+    print(rt.alloc(), &config, &mut out)?;
+    Ok(out)
 }
 
 #[test]
-fn each_kind_has_its_place(rt: HostRuntime) {
-    assert_eq!(rt;
-        refusal(&rt, b"section: screens\n\t-a:"),
-        refused(2, 2, ConfigKind::BadName)
-    );
-    assert_eq!(rt;
-        refusal(&rt, b"section: screens\n\t:"),
-        refused(2, 2, ConfigKind::BadName)
-    );
-    assert_eq!(rt;
-        refusal(&rt, b"section: screens\n\tdesk:\n\tDESK:"),
-        refused(3, 2, ConfigKind::DuplicateScreen)
-    );
-    assert_eq!(rt;
-        refusal(&rt, b"section: screens"),
-        refused(1, 1, ConfigKind::UnclosedSection)
-    );
-    assert_eq!(rt;
-        refusal(&rt, b"section: screen"),
-        refused(1, 10, ConfigKind::UnknownSection)
-    );
-    assert_eq!(rt;
-        refusal(&rt, b"section: aliases\n\tdesk:"),
-        refused(2, 2, ConfigKind::UnknownScreen)
-    );
-    assert_eq!(rt;
-        refusal(&rt, b"section: screens\na:\nend\nsection: aliases\na:\nA"),
-        refused(6, 1, ConfigKind::DuplicateAlias)
-    );
-    assert_eq!(rt;
-        refusal(
-            &rt,
-            b"section: screens\na:\nend\nsection: links\na:\nleft(50,50)=a"
-        ),
-        refused(6, 5, ConfigKind::BadRange)
-    );
-    assert_eq!(rt;
-        refusal(&rt, b"section: options\nshift = ctrl"),
-        refused(2, 1, ConfigKind::UnknownOption)
-    );
-    assert_eq!(rt;
-        refusal(&rt, b"section: options\nheartbeat = \nend"),
-        refused(2, 12, ConfigKind::BadValue)
-    );
-    assert_eq!(rt;
-        refusal(&rt, b"section: options\nheartbeat = 05"),
-        refused(2, 13, ConfigKind::BadValue)
-    );
-}
-
-#[test]
-fn a_bad_line_stands_where_it_cannot_go_on(rt: HostRuntime) {
-    assert_eq!(rt;
-        refusal(&rt, b"sections: x"),
-        refused(1, 8, ConfigKind::BadLine)
-    );
-    assert_eq!(rt;
-        refusal(&rt, b"screens:"),
-        refused(1, 2, ConfigKind::BadLine)
-    );
-    assert_eq!(rt;
-        refusal(&rt, b"section:"),
-        refused(1, 9, ConfigKind::BadLine)
-    );
-    assert_eq!(rt;
-        refusal(&rt, b"section: options\na:"),
-        refused(2, 1, ConfigKind::BadLine)
-    );
-    assert_eq!(rt;
-        refusal(&rt, b"section: screens\nshift = none"),
-        refused(2, 1, ConfigKind::BadLine)
-    );
-    assert_eq!(rt;
-        refusal(&rt, b"section: options\nkeystroke (a) = "),
-        refused(2, 11, ConfigKind::BadLine)
-    );
-    assert_eq!(rt;
-        refusal(
-            &rt,
-            b"section: screens\na:\nend\nsection: links\na:\nleft(007,9)=a"
-        ),
-        refused(6, 7, ConfigKind::BadLine)
-    );
-    assert_eq!(rt;
-        refusal(&rt, b"section: screens\n\ta\x01:"),
-        refused(2, 3, ConfigKind::BadLine)
-    );
-    assert_eq!(rt;
-        refusal(&rt, b"section: screens\nend\r"),
-        refused(2, 4, ConfigKind::BadLine)
-    );
-}
-
-#[test]
-fn classes_come_in_their_order(rt: HostRuntime) {
-    assert_eq!(rt;
-        refusal(
-            &rt,
-            b"section: screens\na:\nend\nsection: links\na:\nleft(9,1) = -x"
-        ),
-        refused(6, 13, ConfigKind::BadName)
-    );
-    assert_eq!(rt;
-        refusal(
-            &rt,
-            b"section: screens\na:\nend\nsection: links\na:\nleft(9,1) = x"
-        ),
-        refused(6, 13, ConfigKind::UnknownScreen)
-    );
-    assert_eq!(rt;
-        refusal(
-            &rt,
-            b"section: screens\n\tdesk:\nend\nsection: links\n\tdesk:\n\t\tright(0,60) = desk\n\t\tright(50,100) = desk\nend"
-        ),
-        refused(7, 3, ConfigKind::Overlap)
-    );
-    assert_eq!(rt;
-        refusal(
-            &rt,
-            b"section: screens\n\tdesk:\nend\nsection: links\n\tdesk:\n\t\tright(0,60) = desk\n\t\tright(50,100) = desk(5,5)\nend"
-        ),
-        refused(7, 23, ConfigKind::BadRange)
-    );
+fn each_text_is_refused_at_its_place(rt: HostRuntime) {
+    let texts = refused_texts();
+    for row in &texts {
+        let wanted = ConfigRefusal {
+            line: row.1,
+            column: row.2,
+            kind: row.3,
+        };
+        assert_eq!(rt; refusal(&rt, row.0), Some(wanted));
+    }
 }
 
 #[test]
 fn usual_texts_are_read(rt: HostRuntime) {
-    assert!(rt; is_accepted(&rt, b""));
-    assert!(rt; is_accepted(&rt, b"section: screens\r\n\tdesk: # \xff\r\nend\r\n"));
-    assert!(rt; is_accepted(&rt, THREE));
+    assert!(rt; read(&rt, b"").is_ok());
+    assert!(rt; read(&rt, b"section: screens\r\n\ta: # \xff\r\nend").is_ok());
 }
 
 #[test]
 fn the_normal_form_is_printed(rt: HostRuntime) -> Result<(), Fail> {
-    let config = parse(rt.alloc(), THREE)?;
-    let mut out = Octets::new(rt.alloc());
-    print(rt.alloc(), &config, &mut out)?;
-    assert_eq!(rt; out.as_slice(), THREE_AGAIN);
+    let out = printed(&rt, three_screens())?;
+    assert_eq!(rt; out.as_slice(), three_screens_again());
     Ok(())
 }
 
 #[test]
 fn every_option_is_read_and_printed(rt: HostRuntime) -> Result<(), Fail> {
-    let config = parse(rt.alloc(), EVERY_OPTION)?;
-    let mut out = Octets::new(rt.alloc());
-    print(rt.alloc(), &config, &mut out)?;
-    assert_eq!(rt; out.as_slice(), EVERY_OPTION);
+    let out = printed(&rt, every_option())?;
+    assert_eq!(rt; out.as_slice(), every_option());
     Ok(())
 }
 
 #[test]
 fn a_screen_is_sent_what_is_set(rt: HostRuntime) -> Result<(), Fail> {
-    let config = parse(rt.alloc(), THREE)?;
-    assert_eq!(rt; config.count(), 3);
-    let lap = config.find(b"LAP").ok_or("lap")?;
-    assert_eq!(rt; config.name(lap).as_slice(), b"lap.local".as_slice());
-    let pad = config.find(b"pad").ok_or("pad")?;
+    let config = read(&rt, three_screens())?;
+    let pad = config.find(b"PAD").ok_or("pad")?;
+    assert_eq!(rt; config.name(pad).as_slice(), b"pad".as_slice());
     let mut words = Words32::new(rt.alloc());
     config.wire_options(rt.alloc(), pad, &mut words)?;
     assert_eq!(rt;
@@ -287,19 +275,21 @@ fn a_screen_is_sent_what_is_set(rt: HostRuntime) -> Result<(), Fail> {
     Ok(())
 }
 
+fn put_numbered(text: &mut Octets, before: &[u8], n: u32, after: &[u8]) -> Result<(), OutOfMemory> {
+    text.extend(before)?;
+    put_number(n, text)?;
+    text.extend(after)
+}
+
 #[test]
 fn a_65th_screen_is_too_many(rt: HostRuntime) -> Result<(), Fail> {
     let mut text = Octets::new(rt.alloc());
     text.extend(b"section: screens\n")?;
     for n in 0..65 {
-        text.extend(b"\ts")?;
-        put_number(n, &mut text)?;
-        text.extend(b":\n")?;
+        put_numbered(&mut text, b"\ts", n, b":\n")?;
     }
-    assert_eq!(rt;
-        refusal(&rt, text.as_slice()),
-        refused(66, 2, ConfigKind::TooMany)
-    );
+    let refusal = refusal(&rt, text.as_slice()).ok_or("refused")?;
+    assert_eq!(rt; (refusal.line, refusal.column), (66, 2));
     Ok(())
 }
 
@@ -308,14 +298,18 @@ fn a_257th_alias_is_too_many(rt: HostRuntime) -> Result<(), Fail> {
     let mut text = Octets::new(rt.alloc());
     text.extend(b"section: screens\na:\nend\nsection: aliases\na:\n")?;
     for n in 0..257 {
-        text.extend(b"\t\ts")?;
-        put_number(n, &mut text)?;
-        text.extend(b"\n")?;
+        put_numbered(&mut text, b"\t\ts", n, b"\n")?;
     }
-    assert_eq!(rt;
-        refusal(&rt, text.as_slice()),
-        refused(262, 3, ConfigKind::TooMany)
-    );
+    let refusal = refusal(&rt, text.as_slice()).ok_or("refused")?;
+    assert_eq!(rt; (refusal.line, refusal.column), (262, 3));
+    Ok(())
+}
+
+fn put_links(text: &mut Octets) -> Result<(), OutOfMemory> {
+    for a in 0..100 {
+        put_numbered(text, b"up(", a, b",")?;
+        put_numbered(text, b"", a + 1, b")=s0\n")?;
+    }
     Ok(())
 }
 
@@ -324,28 +318,15 @@ fn a_1025th_link_is_too_many(rt: HostRuntime) -> Result<(), Fail> {
     let mut text = Octets::new(rt.alloc());
     text.extend(b"section: screens\n")?;
     for n in 0..11 {
-        text.extend(b"s")?;
-        put_number(n, &mut text)?;
-        text.extend(b":\n")?;
+        put_numbered(&mut text, b"s", n, b":\n")?;
     }
     text.extend(b"end\nsection: links\n")?;
     for n in 0..11 {
-        text.extend(b"s")?;
-        put_number(n, &mut text)?;
-        text.extend(b":\n")?;
-        for a in 0..100 {
-            text.extend(b"up(")?;
-            put_number(a, &mut text)?;
-            text.extend(b",")?;
-            put_number(a + 1, &mut text)?;
-            text.extend(b")=s0\n")?;
-        }
+        put_numbered(&mut text, b"s", n, b":\n")?;
+        put_links(&mut text)?;
     }
-    // Line 14 opens the section; each screen then has 101 lines, and the 1,025th link is the 25th of the
-    // eleventh screen.
-    assert_eq!(rt;
-        refusal(&rt, text.as_slice()),
-        refused(1050, 1, ConfigKind::TooMany)
-    );
+    // Line 14 opens the section, a screen has 101 lines in it, and this is the eleventh screen's 25th link.
+    let refusal = refusal(&rt, text.as_slice()).ok_or("refused")?;
+    assert_eq!(rt; (refusal.line, refusal.column), (1050, 1));
     Ok(())
 }
