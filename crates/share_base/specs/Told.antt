@@ -1,5 +1,5 @@
 -- Lists that are told or not: an equation on them claims nothing where they are not told.
-use Rattle.std.specs.Prelude.{◌≡◌, ℕ, Bool, true, List, [], ◌++◌, Option, IfSome}
+use Rattle.std.specs.Prelude.{◌≡◌, ℕ, Bool, true, false, List, [], ◌++◌, Option, IfSome}
 use Rattle.std.specs.Option.{option_map}
 
 -- the list with these bytes in front of it
@@ -17,3 +17,7 @@ NoneLeft told = IfSome told (λ xs. xs ≡ [])
 -- where it is told, the flag is set
 abbrev pub IsSet : Option Bool → Type 0
 IsSet told = IfSome told (λ flag. flag ≡ true)
+
+-- where it is told, the flag is not set
+abbrev pub NotSet : Option Bool → Type 0
+NotSet told = IfSome told (λ flag. flag ≡ false)

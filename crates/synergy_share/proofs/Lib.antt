@@ -1,5 +1,5 @@
-pub mod Frames
+pub mod SingleWords
 pub mod Streams
+pub mod Going
 pub mod Runs
 pub mod OneSplit
-pub mod SingleWords

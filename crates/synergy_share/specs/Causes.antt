@@ -8,6 +8,7 @@ use Rattle.synergy_share.specs.declared.status.Status.TheVariants as status
 abbrev pub SinkCounts : Status → ℕ → ℕ → Type 0
 SinkCounts status.WriteFault old new = Rises old new
 SinkCounts status.Ok old new = new ≡ old
+SinkCounts (status.BadFrames place reason) old new = new ≡ old
 SinkCounts (status.NotYet place) old new = new ≡ old
 SinkCounts (status.Lost cause) old new = new ≡ old
 SinkCounts status.InputTooLong old new = new ≡ old
@@ -20,6 +21,7 @@ abbrev pub SourceCounts : Status → ℕ → ℕ → Type 0
 SourceCounts status.ReadFault old new = Rises old new
 SourceCounts status.WriteFault old new = new ≡ old
 SourceCounts status.Ok old new = new ≡ old
+SourceCounts (status.BadFrames place reason) old new = new ≡ old
 SourceCounts (status.NotYet place) old new = new ≡ old
 SourceCounts (status.Lost cause) old new = new ≡ old
 SourceCounts status.InputTooLong old new = new ≡ old

@@ -1,7 +1,10 @@
-pub mod Printed
-pub mod Injecting
+pub mod Printing
+pub mod BadFrames
+pub mod Begins
+pub mod Taking
+pub mod Keeping
+pub mod Commands
 pub mod Causes
-pub mod Draining
 pub mod Statuses
 pub mod Words
-pub mod Commands
+pub mod Forms

@@ -1,6 +1,7 @@
 -- The table of statuses: the exit code and the line on standard error.
 use Rattle.std.specs.Prelude.{ℕ, List, [], ◌∷◌, ◌++◌, codes}
 use Rattle.std.specs.Fmt.{decimal}
+use Rattle.share_base.specs.Reasons.{reason_text}
 use Rattle.synergy_share.specs.declared.status.Status.{Status}
 use Rattle.synergy_share.specs.declared.status.Status.TheVariants as status
 use Rattle.synergy_share.specs.declared.status.LostCause.TheVariants as lost
@@ -14,6 +15,7 @@ status_row code text = record { code = code; text = text }
 
 abbrev pub row : Status → StatusRow
 row status.Ok = status_row 0 []
+row (status.BadFrames place reason) = status_row 1 (codes "frames " ++ decimal place ++ 32 ∷ [] ++ reason_text reason ++ 10 ∷ [])
 row status.InputTooLong = status_row 1 (codes "input too long\n")
 row status.Usage = status_row 2 (codes "usage\n")
 row status.ReadFault = status_row 3 (codes "read fault\n")

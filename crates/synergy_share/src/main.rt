@@ -6,17 +6,20 @@
 #![tactic(auto)]
 
 mod command;
-mod injecting;
+mod commands;
+mod injection_lines;
 mod laws;
+mod line_reader;
 mod printing;
 mod real;
 mod status;
+mod taking;
 #[cfg(test)]
 mod tests;
 mod top;
 
 pub use command::{Command, form};
-pub use injecting::run_inject;
+pub use commands::run_inject;
 pub use laws::one_reading;
 pub use real::{StdSink, StdSource};
 pub use status::{LostCause, Status};

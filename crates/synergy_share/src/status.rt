@@ -2,7 +2,7 @@
 
 ghost use Rattle.std.specs.Prelude.{◌≡◌};
 
-use share_base::{Lines, put_u64};
+use share_base::{Lines, Reason, put_u64};
 
 /// How a connection was lost.
 #[derive(Clone, Copy, Debug, PartialEq, Eq)]
@@ -16,9 +16,16 @@ pub enum LostCause {
 pub enum Status {
     /// All was done.
     Ok,
-    /// A frame that is not read yet stands at that place, the number of bytes before it.
-    NotYet {
+    /// A frame is bad, at that place, the number of bytes before it.
+    BadFrames {
         /// Where its length field begins.
+        place: u64,
+        /// What is wrong with it.
+        reason: Reason,
+    },
+    /// A message that is not injected yet stands at that place.
+    NotYet {
+        /// Where its frame begins.
         place: u64,
     },
     /// More bytes were read than a command takes.
@@ -44,7 +51,7 @@ impl Status {
     {
         match self {
             Status::Ok => 0,
-            Status::InputTooLong => 1,
+            Status::BadFrames { .. } | Status::InputTooLong => 1,
             Status::Usage => 2,
             Status::ReadFault => 3,
             Status::WriteFault => 4,
@@ -67,6 +74,13 @@ impl Status {
             Status::WriteFault => line.extend(b"write fault\n"),
             Status::OutOfMemory => line.extend(b"out of memory\n"),
             Status::Lost(LostCause::Ended) => line.extend(b"lost ended\n"),
+            Status::BadFrames { place, reason } => {
+                line.extend(b"frames ");
+                put_u64(&mut line, place);
+                line.extend(b" ");
+                line.extend(reason.text());
+                line.extend(b"\n");
+            }
             Status::NotYet { place } => {
                 line.extend(b"not yet ");
                 put_u64(&mut line, place);
