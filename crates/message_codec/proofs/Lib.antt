@@ -1,4 +1,11 @@
 pub mod CodeTexts
 pub mod Readers
 pub mod FieldLaws
+pub mod WordLoop
+pub mod Building
 pub mod Bodies
+pub mod Misfits
+pub mod RefusalLaws
+pub mod Putting
+pub mod Narrow
+pub mod OneVerdict

@@ -1,21 +1,11 @@
--- What decoding answers.
-use Rattle.std.specs.Prelude.{◌≡◌, ℕ, List, Result, Ok, Err}
-use Rattle.std.specs.Borrow.{Bor}
+-- What decoding comes to.
+use Rattle.std.specs.Prelude.{◌≡◌, Result, Ok, Err}
 use Rattle.message_codec.specs.declared.messages.Msg.{Msg}
-use Rattle.message_codec.specs.declared.coding.Code.{Code}
-use Rattle.message_codec.specs.declared.reading.Short.{Short}
-use Rattle.message_codec.specs.declared.decoding.DecodeFault.{DecodeFault}
-use Rattle.message_codec.specs.declared.decoding.DecodeFault.TheVariants.{Bad, OutOfMemory}
-use Rattle.message_codec.specs.Fields.{Field}
-use Rattle.message_codec.specs.Table.{code_of, fields}
+use Rattle.message_codec.specs.declared.faults.DecodeFault.{DecodeFault}
+use Rattle.message_codec.specs.declared.faults.DecodeFault.TheVariants as fault
 
--- the message that a function returned, and the bytes after it, are what reading gives
-abbrev pub GivesMsg : Code → Result (Msg × Bor (List ℕ)) Short → Result (List Field × List ℕ) ℕ → Type 0
-GivesMsg c (Ok x) read = (code_of x.0 ≡ c) × (read ≡ Ok (fields x.0, x.1.now))
-GivesMsg c (Err short) read = read ≡ Err short.left
-
--- the body was refused
-abbrev pub IsBad : Result Msg DecodeFault → Type 0
-IsBad (Ok m) = ⊥
-IsBad (Err (Bad why)) = Unit {0}
-IsBad (Err OutOfMemory) = ⊥
+-- the answer is this message, unless memory was wanting
+abbrev pub IsDecoded : Msg → Result Msg DecodeFault → Type 0
+IsDecoded m (Ok n) = n ≡ m
+IsDecoded m (Err (fault.Bad why)) = ⊥
+IsDecoded m (Err fault.OutOfMemory) = Unit {0}

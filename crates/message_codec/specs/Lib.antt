@@ -1,6 +1,15 @@
+pub mod Marks
+pub mod Kinds
 pub mod Fields
 pub mod Reading
 pub mod Table
+pub mod Codes
 pub mod Spelling
+pub mod Drafts
+pub mod Refusals
+pub mod Reasons
 pub mod Decoding
+pub mod Seen
+pub mod Showing
 pub mod Streams
+pub mod Verdicts

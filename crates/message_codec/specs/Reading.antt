@@ -1,8 +1,11 @@
--- Reading fields from left to right. Where a part doesn't fit, the answer is how many bytes were left there.
+-- Reading fields from left to right. Where a part of one doesn't fit, the answer is how many bytes were left there.
 use Rattle.std.specs.Prelude.{◌≡◌, ℕ, ℤ, zero, suc, List, [], ◌∷◌, length, take, drop, Result, Ok, Err, nat_lt, if◌then◌else◌}
 use Rattle.std.specs.Int.{Width, w16, w32, byte_len, from_be_bytes, cast_signed}
-use Rattle.message_codec.specs.declared.reading.Short.{Short}
-use Rattle.message_codec.specs.Fields.{Field, Byte, Half, Signed, Word, Text, Words, Kind, byte, half, signed, word, text, words}
+use Rattle.message_codec.specs.declared.reading.ReadError.{ReadError}
+use Rattle.message_codec.specs.declared.reading.ReadError.TheVariants as errors
+use Rattle.message_codec.specs.Kinds.{Kind}
+use Rattle.message_codec.specs.Kinds as kind
+use Rattle.message_codec.specs.Fields.{Field, Byte, Half, Signed, Word, Clip, Mark, Text, Words}
 
 -- what was read and the bytes after it, or how many bytes were left
 abbrev pub Read : Type 0 → Type 0
@@ -13,10 +16,15 @@ abbrev pub ◌>>=◌ : {A B : Type 0} → Result A ℕ → (A → Result B ℕ) 
 (Ok x) >>= f = f x
 (Err left) >>= f = Err left
 
+-- what a function that fails for want of bytes, or of memory, says of what reading gives
+abbrev pub Fails : {Y : Type 0} → ReadError → Result Y ℕ → Type 0
+Fails (errors.Short left) read = read ≡ Err left
+Fails errors.Memory read = Unit {0}
+
 -- what a function returned, seen by view, is what reading gives
-abbrev pub Gives : {X Y : Type 0} → (X → Y) → Result X Short → Result Y ℕ → Type 0
+abbrev pub Gives : {X Y : Type 0} → (X → Y) → Result X ReadError → Result Y ℕ → Type 0
 Gives view (Ok x) read = read ≡ Ok (view x)
-Gives view (Err short) read = read ≡ Err short.left
+Gives view (Err e) read = Fails e read
 
 abbrev pub number_at : Width → List ℕ → Read ℕ
 number_at w bytes = if nat_lt (length bytes) (byte_len w) then Err (length bytes) else Ok (from_be_bytes w (take (byte_len w) bytes), drop (byte_len w) bytes)
@@ -43,12 +51,14 @@ words_at (suc k) bytes = do
   Ok (n.0 ∷ ns.0, ns.1)
 
 abbrev pub read_field : Kind → List ℕ → Read Field
-read_field byte bytes = byte_at bytes >>= λ x. Ok (Byte x.0, x.1)
-read_field half bytes = number_at w16 bytes >>= λ x. Ok (Half x.0, x.1)
-read_field signed bytes = signed_at bytes >>= λ x. Ok (Signed x.0, x.1)
-read_field word bytes = number_at w32 bytes >>= λ x. Ok (Word x.0, x.1)
-read_field text bytes = text_at bytes >>= λ x. Ok (Text x.0, x.1)
-read_field words bytes = number_at w32 bytes >>= λ n. words_at n.0 n.1 >>= λ x. Ok (Words x.0, x.1)
+read_field kind.byte bytes = byte_at bytes >>= λ x. Ok (Byte x.0, x.1)
+read_field kind.half bytes = number_at w16 bytes >>= λ x. Ok (Half x.0, x.1)
+read_field kind.signed bytes = signed_at bytes >>= λ x. Ok (Signed x.0, x.1)
+read_field kind.word bytes = number_at w32 bytes >>= λ x. Ok (Word x.0, x.1)
+read_field kind.clip bytes = byte_at bytes >>= λ x. Ok (Clip x.0, x.1)
+read_field kind.mark bytes = byte_at bytes >>= λ x. Ok (Mark x.0, x.1)
+read_field kind.text bytes = text_at bytes >>= λ x. Ok (Text x.0, x.1)
+read_field kind.words bytes = number_at w32 bytes >>= λ n. words_at n.0 n.1 >>= λ x. Ok (Words x.0, x.1)
 
 unfoldable pub read_fields : List Kind → List ℕ → Read (List Field)
 read_fields [] bytes = Ok ([], bytes)

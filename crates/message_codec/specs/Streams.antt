@@ -1,7 +1,8 @@
--- Streams that are made of messages.
-use Rattle.std.specs.Prelude.{◌≡◌, ℕ, ◌≤◌, ◌⊎◌, List, ◌++◌, length}
+-- Streams that are made of messages, as a reader takes them.
+use Rattle.std.specs.Prelude.{◌≡◌, ℕ, ◌≤◌, Bool, true, List, [], ◌∷◌, ◌++◌, length}
 use Rattle.std.specs.List.{flat_map}
-use Rattle.wire_frames.specs.Framing.{frame, IsTooLong}
+use Rattle.std.proofs.Common.{lit≤}
+use Rattle.wire_frames.specs.Framing.{frame}
 use Rattle.message_codec.specs.declared.messages.End.{End}
 use Rattle.message_codec.specs.declared.messages.Msg.{Msg}
 use Rattle.message_codec.specs.Spelling.{body_of, Spells}
@@ -17,19 +18,24 @@ frame_of m = frame (body_of m)
 abbrev pub frames_of : List Msg → List ℕ
 frames_of messages = flat_map frame_of messages
 
--- a message that this end sends, in a frame within the limit
-pub record IsGood (from : End) (m : Msg) : Type 0 where
-  pub spelled : Spells from m (body_of m)
-  pub within : length (body_of m) ≤ body_limit
+-- who reads a stream: which end sends it, how long a body may be after these messages, and whether a message may stand after them
+pub record Reader : Type 0 where
+  pub from : End
+  pub limit : List Msg → ℕ
+  pub limited : (before : List Msg) → limit before ≤ body_limit
+  pub takes : List Msg → Msg → Bool
 
--- a whole frame within the limit whose body spells no message of this end stands at the front
-pub record IsUnspelled (from : End) (bytes : List ℕ) : Type 0 where
-  pub body : List ℕ
-  pub more : List ℕ
-  pub front : bytes ≡ frame body ++ more
-  pub within : length body ≤ body_limit
-  pub none : (m : Msg) → Spells from m body → ⊥
+-- one for which every message of that end may stand anywhere
+abbrev pub plain : End → Reader
+plain from = record { from = from; limit = λ before. body_limit; limited = λ before. lit≤ tt; takes = λ before m. true }
 
--- a bad frame stands at the front: it is too long, or spells no message of this end
-abbrev pub IsBadFrame : End → List ℕ → Type 0
-IsBadFrame from bytes = IsTooLong body_limit bytes ⊎ IsUnspelled from bytes
+-- a message that may stand after those
+pub record IsGood (reader : Reader) (before : List Msg) (m : Msg) : Type 0 where
+  pub spelled : Spells reader.from m (body_of m)
+  pub within : length (body_of m) ≤ reader.limit before
+  pub taken : reader.takes before m ≡ true
+
+-- each of the messages may stand after those and the ones before it
+abbrev pub AllGood : Reader → List Msg → List Msg → Type 0
+AllGood reader before [] = Unit {0}
+AllGood reader before (m ∷ ms) = IsGood reader before m × AllGood reader (before ++ m ∷ []) ms

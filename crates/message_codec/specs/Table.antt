@@ -1,13 +1,17 @@
 -- The table of messages: what each begins with, who sends it, and its fields.
-use Rattle.std.specs.Prelude.{◌≡◌, ℕ, List, [], ◌∷◌, Option, codes, find, nat_eq}
+use Rattle.std.specs.Prelude.{◌≡◌, ℕ, List, [], ◌∷◌, Option, Some, codes, find, nat_eq, if◌then◌else◌}
 use Rattle.std.specs.List.{starts_with}
+use Rattle.share_base.specs.Clips.{clip_number}
 use Rattle.message_codec.specs.declared.messages.End.{End}
 use Rattle.message_codec.specs.declared.messages.End.TheVariants as ends
 use Rattle.message_codec.specs.declared.messages.Msg.{Msg}
 use Rattle.message_codec.specs.declared.messages.Msg.TheVariants as msg
 use Rattle.message_codec.specs.declared.coding.Code.{Code}
 use Rattle.message_codec.specs.declared.coding.Code.TheVariants as code
-use Rattle.message_codec.specs.Fields.{Field, Half, Signed, Word, Kind, half, signed, word}
+use Rattle.message_codec.specs.Marks.{mark_number}
+use Rattle.message_codec.specs.Kinds.{Kind}
+use Rattle.message_codec.specs.Kinds as kind
+use Rattle.message_codec.specs.Fields.{Field, Byte, Half, Signed, Word, Clip, Mark, Text, Words}
 
 -- who sends a message
 pub data Sender : Type 0 where
@@ -24,31 +28,73 @@ abbrev row_of : List ℕ → Sender → List Kind → Row
 row_of text sender kinds = record { text = text; sender = sender; kinds = kinds }
 
 abbrev pub row : Code → Row
-row code.Enter = row_of (codes "CINN") server (signed ∷ signed ∷ word ∷ half ∷ [])
-row code.Leave = row_of (codes "COUT") server []
-row code.MoveTo = row_of (codes "DMMV") server (signed ∷ signed ∷ [])
+row code.Hello = row_of (codes "Synergy") server (kind.half ∷ kind.half ∷ [])
+row code.HelloBack = row_of (codes "Synergy") client (kind.half ∷ kind.half ∷ kind.text ∷ [])
+row code.QueryInfo = row_of (codes "QINF") server []
+row code.InfoAck = row_of (codes "CIAK") server []
+row code.ResetOptions = row_of (codes "CROP") server []
 row code.Bye = row_of (codes "CBYE") server []
-
--- all of them, in the table's order
-abbrev pub all_codes : List Code
-all_codes = code.Enter ∷ code.Leave ∷ code.MoveTo ∷ code.Bye ∷ []
+row code.Enter = row_of (codes "CINN") server (kind.signed ∷ kind.signed ∷ kind.word ∷ kind.half ∷ [])
+row code.Leave = row_of (codes "COUT") server []
+row code.Saver = row_of (codes "CSEC") server (kind.byte ∷ [])
+row code.SetOptions = row_of (codes "DSOP") server (kind.words ∷ [])
+row code.KeyDown = row_of (codes "DKDN") server (kind.half ∷ kind.half ∷ kind.half ∷ [])
+row code.KeyRepeat = row_of (codes "DKRP") server (kind.half ∷ kind.half ∷ kind.half ∷ kind.half ∷ [])
+row code.KeyUp = row_of (codes "DKUP") server (kind.half ∷ kind.half ∷ kind.half ∷ [])
+row code.ButtonDown = row_of (codes "DMDN") server (kind.byte ∷ [])
+row code.ButtonUp = row_of (codes "DMUP") server (kind.byte ∷ [])
+row code.MoveTo = row_of (codes "DMMV") server (kind.signed ∷ kind.signed ∷ [])
+row code.MoveBy = row_of (codes "DMRM") server (kind.signed ∷ kind.signed ∷ [])
+row code.Wheel = row_of (codes "DMWM") server (kind.signed ∷ kind.signed ∷ [])
+row code.BadVersion = row_of (codes "EICV") server (kind.half ∷ kind.half ∷ [])
+row code.Busy = row_of (codes "EBSY") server []
+row code.Unknown = row_of (codes "EUNK") server []
+row code.Malformed = row_of (codes "EBAD") server []
+row code.Noop = row_of (codes "CNOP") client []
+row code.Info = row_of (codes "DINF") client (kind.signed ∷ kind.signed ∷ kind.half ∷ kind.half ∷ kind.half ∷ kind.signed ∷ kind.signed ∷ [])
+row code.Alive = row_of (codes "CALV") both []
+row code.Grab = row_of (codes "CCLP") both (kind.clip ∷ kind.word ∷ [])
+row code.ClipPart = row_of (codes "DCLP") both (kind.clip ∷ kind.word ∷ kind.mark ∷ kind.text ∷ [])
+row code.FilePart = row_of (codes "DFTR") both (kind.byte ∷ kind.text ∷ [])
+row code.DragInfo = row_of (codes "DDRG") both (kind.half ∷ kind.text ∷ [])
 
 -- a message's code, and its fields in the order of the row
 abbrev pub parts : Msg → Code × List Field
+parts (msg.Hello major minor) = (code.Hello, Half major ∷ Half minor ∷ [])
+parts (msg.HelloBack major minor name) = (code.HelloBack, Half major ∷ Half minor ∷ Text name ∷ [])
+parts msg.QueryInfo = (code.QueryInfo, [])
+parts msg.InfoAck = (code.InfoAck, [])
+parts msg.ResetOptions = (code.ResetOptions, [])
+parts msg.Bye = (code.Bye, [])
 parts (msg.Enter x y seq mask) = (code.Enter, Signed x ∷ Signed y ∷ Word seq ∷ Half mask ∷ [])
 parts msg.Leave = (code.Leave, [])
+parts (msg.Saver on) = (code.Saver, Byte on ∷ [])
+parts (msg.SetOptions words) = (code.SetOptions, Words words ∷ [])
+parts (msg.KeyDown id mask button) = (code.KeyDown, Half id ∷ Half mask ∷ Half button ∷ [])
+parts (msg.KeyRepeat id mask count button) = (code.KeyRepeat, Half id ∷ Half mask ∷ Half count ∷ Half button ∷ [])
+parts (msg.KeyUp id mask button) = (code.KeyUp, Half id ∷ Half mask ∷ Half button ∷ [])
+parts (msg.ButtonDown b) = (code.ButtonDown, Byte b ∷ [])
+parts (msg.ButtonUp b) = (code.ButtonUp, Byte b ∷ [])
 parts (msg.MoveTo x y) = (code.MoveTo, Signed x ∷ Signed y ∷ [])
-parts msg.Bye = (code.Bye, [])
+parts (msg.MoveBy dx dy) = (code.MoveBy, Signed dx ∷ Signed dy ∷ [])
+parts (msg.Wheel dx dy) = (code.Wheel, Signed dx ∷ Signed dy ∷ [])
+parts (msg.BadVersion major minor) = (code.BadVersion, Half major ∷ Half minor ∷ [])
+parts msg.Busy = (code.Busy, [])
+parts msg.Unknown = (code.Unknown, [])
+parts msg.Malformed = (code.Malformed, [])
+parts msg.Noop = (code.Noop, [])
+parts (msg.Info x y w h warp mx my) = (code.Info, Signed x ∷ Signed y ∷ Half w ∷ Half h ∷ Half warp ∷ Signed mx ∷ Signed my ∷ [])
+parts msg.Alive = (code.Alive, [])
+parts (msg.Grab clip seq) = (code.Grab, Clip (clip_number clip) ∷ Word seq ∷ [])
+parts (msg.ClipPart clip seq mark bytes) = (code.ClipPart, Clip (clip_number clip) ∷ Word seq ∷ Mark (mark_number mark) ∷ Text bytes ∷ [])
+parts (msg.FilePart mark bytes) = (code.FilePart, Byte mark ∷ Text bytes ∷ [])
+parts (msg.DragInfo count bytes) = (code.DragInfo, Half count ∷ Text bytes ∷ [])
 
 -- ---- what the rows say
 
 -- what bodies begin with
 abbrev pub text : Code → List ℕ
 text c = (row c).text
-
--- the first code that bytes begin with
-abbrev pub code_at : List ℕ → Option Code
-code_at bytes = find (λ c. starts_with nat_eq bytes (text c)) all_codes
 
 abbrev pub kinds : Code → List Kind
 kinds c = (row c).kinds

@@ -1,21 +1,75 @@
 //! What bodies begin with.
 
-ghost use Rattle.std.specs.Prelude.{◌≡◌, ◌↔◌, IsTrue, find, nat_eq};
-ghost use Rattle.std.specs.List.{starts_with};
-ghost use Rattle.message_codec.specs.Table.{text, code_at, SentBy};
+ghost use Rattle.std.specs.Prelude.{◌≡◌, ◌↔◌, IsTrue};
+ghost use Rattle.message_codec.specs.Table.{text, SentBy};
+ghost use Rattle.message_codec.specs.Codes.{code_at, first_code, hello_of};
 
 use crate::messages::End;
 
 /// A kind of message.
 #[derive(Clone, Copy, Debug, PartialEq, Eq)]
 pub enum Code {
+    Hello,
+    HelloBack,
+    QueryInfo,
+    InfoAck,
+    ResetOptions,
+    Bye,
     Enter,
     Leave,
+    Saver,
+    SetOptions,
+    KeyDown,
+    KeyRepeat,
+    KeyUp,
+    ButtonDown,
+    ButtonUp,
     MoveTo,
-    Bye,
+    MoveBy,
+    Wheel,
+    BadVersion,
+    Busy,
+    Unknown,
+    Malformed,
+    Noop,
+    Info,
+    Alive,
+    Grab,
+    ClipPart,
+    FilePart,
+    DragInfo,
 }
 
-const CODES: [Code; 4] = [Code::Enter, Code::Leave, Code::MoveTo, Code::Bye];
+/// Those that begin with four letters.
+const FOUR_LETTERS: [Code; 27] = [
+    Code::QueryInfo,
+    Code::InfoAck,
+    Code::ResetOptions,
+    Code::Bye,
+    Code::Enter,
+    Code::Leave,
+    Code::Saver,
+    Code::SetOptions,
+    Code::KeyDown,
+    Code::KeyRepeat,
+    Code::KeyUp,
+    Code::ButtonDown,
+    Code::ButtonUp,
+    Code::MoveTo,
+    Code::MoveBy,
+    Code::Wheel,
+    Code::BadVersion,
+    Code::Busy,
+    Code::Unknown,
+    Code::Malformed,
+    Code::Noop,
+    Code::Info,
+    Code::Alive,
+    Code::Grab,
+    Code::ClipPart,
+    Code::FilePart,
+    Code::DragInfo,
+];
 
 impl Code {
     /// What the bodies of this kind begin with.
@@ -23,10 +77,34 @@ impl Code {
         ensures { result.now ≡ text self }
     {
         match self {
+            Code::Hello | Code::HelloBack => b"Synergy",
+            Code::QueryInfo => b"QINF",
+            Code::InfoAck => b"CIAK",
+            Code::ResetOptions => b"CROP",
+            Code::Bye => b"CBYE",
             Code::Enter => b"CINN",
             Code::Leave => b"COUT",
+            Code::Saver => b"CSEC",
+            Code::SetOptions => b"DSOP",
+            Code::KeyDown => b"DKDN",
+            Code::KeyRepeat => b"DKRP",
+            Code::KeyUp => b"DKUP",
+            Code::ButtonDown => b"DMDN",
+            Code::ButtonUp => b"DMUP",
             Code::MoveTo => b"DMMV",
-            Code::Bye => b"CBYE",
+            Code::MoveBy => b"DMRM",
+            Code::Wheel => b"DMWM",
+            Code::BadVersion => b"EICV",
+            Code::Busy => b"EBSY",
+            Code::Unknown => b"EUNK",
+            Code::Malformed => b"EBAD",
+            Code::Noop => b"CNOP",
+            Code::Info => b"DINF",
+            Code::Alive => b"CALV",
+            Code::Grab => b"CCLP",
+            Code::ClipPart => b"DCLP",
+            Code::FilePart => b"DFTR",
+            Code::DragInfo => b"DDRG",
         }
     }
 
@@ -35,20 +113,56 @@ impl Code {
         ensures { IsTrue result ↔ SentBy self end }
     {
         match self {
-            Code::Enter | Code::Leave | Code::MoveTo | Code::Bye => end == End::Server,
+            Code::Hello
+            | Code::QueryInfo
+            | Code::InfoAck
+            | Code::ResetOptions
+            | Code::Bye
+            | Code::Enter
+            | Code::Leave
+            | Code::Saver
+            | Code::SetOptions
+            | Code::KeyDown
+            | Code::KeyRepeat
+            | Code::KeyUp
+            | Code::ButtonDown
+            | Code::ButtonUp
+            | Code::MoveTo
+            | Code::MoveBy
+            | Code::Wheel
+            | Code::BadVersion
+            | Code::Busy
+            | Code::Unknown
+            | Code::Malformed => end == End::Server,
+            Code::HelloBack | Code::Noop | Code::Info => end == End::Client,
+            Code::Alive | Code::Grab | Code::ClipPart | Code::FilePart | Code::DragInfo => true,
         }
     }
 
-    /// The kind that a body begins as.
-    pub fn of(body: &[u8]) -> Option<Code>
-        ensures { result ≡ code_at body.now }
+    /// The hello that this end sends.
+    fn hello_of(end: End) -> Code
+        ensures { result ≡ hello_of end }
     {
-        first_of(&CODES, body)
+        match end {
+            End::Server => Code::Hello,
+            End::Client => Code::HelloBack,
+        }
+    }
+
+    /// The kind that a body from that end begins as.
+    #[tactic(auto, unfolding(crate::specs::Codes::code_at))]
+    pub fn of(from: End, body: &[u8]) -> Option<Code>
+        ensures { result ≡ code_at from body.now }
+    {
+        if body.starts_with(Code::Hello.text()) {
+            return Some(Code::hello_of(from));
+        }
+        first_of(&FOUR_LETTERS, body)
     }
 }
 
 fn first_of(codes: &[Code], body: &[u8]) -> Option<Code>
-    ensures { result ≡ find (λ c. starts_with nat_eq body.now (text c)) codes.now }
+    ensures { result ≡ first_code codes.now body.now }
 {
     codes
         .iter()

@@ -5,14 +5,23 @@
 //! where bytes come from or what becomes of a message.
 #![tactic(auto)]
 
+mod clip_mark;
 mod coding;
 mod decoding;
+mod drafts;
+mod encoding;
+mod faults;
+mod fields;
 mod laws;
 mod messages;
 mod reading;
-#[cfg(test)]
-mod tests;
+mod rows;
+mod showing;
 
-pub use decoding::{BadBody, DecodeFault, decode};
-pub use laws::one_message;
+pub use clip_mark::ClipMark;
+pub use decoding::decode;
+pub use encoding::{body_len, encode};
+pub use faults::{BadBody, DecodeFault};
+pub use laws::{one_message, one_refusal, one_verdict, refused_spells_none, spelled_is_decoded};
 pub use messages::{End, Msg};
+pub use showing::show;

@@ -1,4 +1,4 @@
-//! What every other crate stands on: lists of bytes, a fixed buffer of printed lines, decimal
+//! What every other crate stands on: lists of bytes and of words, a fixed buffer of printed lines, decimal
 //! numbers, the small types that name keys, buttons, screens, sides, shapes, clipboards and reasons,
 //! and the outside as two traits, `Source` and `Sink`, with forms of them in memory.
 //!
@@ -20,6 +20,7 @@ mod sink;
 mod source;
 #[cfg(test)]
 mod tests;
+mod words32;
 
 pub use clip_id::ClipId;
 pub use decimal::{put_i16, put_u16, put_u32, put_u64};
@@ -33,3 +34,4 @@ pub use reason::Reason;
 pub use shape::{Shape, Side};
 pub use sink::{Sink, SinkAnswer, write_all};
 pub use source::{Source, SourceAnswer};
+pub use words32::Words32;

@@ -11,6 +11,15 @@ fn octets_grow(rt: HostRuntime) -> Result<(), Fail> {
 }
 
 #[test]
+fn words_grow(rt: HostRuntime) -> Result<(), Fail> {
+    let mut words = Words32::new(rt.alloc());
+    words.push(7)?;
+    words.extend(&[8, 4_294_967_295])?;
+    assert_eq!(rt; words.as_slice(), [7, 8, 4_294_967_295].as_slice());
+    Ok(())
+}
+
+#[test]
 fn numbers_are_printed_in_full(rt: HostRuntime) {
     let mut lines = Lines::new();
     put_u64(&mut lines, 18_446_744_073_709_551_615);

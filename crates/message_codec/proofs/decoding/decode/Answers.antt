@@ -1,41 +1,69 @@
-use Rattle.std.proofs.Common.{◌≡◌, List, ℕ, length, drop, sym, ap, ◌∙◌, arith, rules}
+use Rattle.std.proofs.Common.{◌≡◌, ◌<◌, ◌∙◌, List, ℕ, [], Ok, Err, length, sym, ap, subst, arith, rules}
 use Rattle.std.proofs.lemmas.List.{nil_from_length}
+use Rattle.message_codec.specs.declared.messages.End.{End}
 use Rattle.message_codec.specs.declared.coding.Code.{Code}
-use Rattle.message_codec.specs.Table.{SentBy, text, kinds}
-use Rattle.message_codec.specs.Reading.{read_fields}
-use Rattle.message_codec.proofs.CodeTexts.{code_at-begins, text_fits}
-use Rattle.message_codec.proofs.Bodies.{read_spells, spelled_reads, reads_nothing_more, reads_no_fault}
+use Rattle.message_codec.specs.declared.faults.BadBody.{BadBody}
+use Rattle.message_codec.specs.declared.drafts.Draft.{Draft}
+use Rattle.message_codec.specs.Fields.{Field}
+use Rattle.message_codec.specs.declared.reading.ReadError.{ReadError}
+use Rattle.message_codec.specs.Reading.{Fails, read_fields}
+use Rattle.message_codec.specs.Table.{SentBy, kinds, fields}
+use Rattle.message_codec.specs.Drafts.{draft_code, draft_fields}
+use Rattle.message_codec.specs.Refusals.{Reads, Misfits, Refuses}
+use Rattle.message_codec.proofs.CodeTexts.{code_at-begins, text_fits, no_code, no_sent}
+use Rattle.message_codec.proofs.Bodies.{reads_at, read_spells}
+use Rattle.message_codec.proofs.RefusalLaws.{never, misfit_refuses}
 use Rattle.message_codec.proofs.decoding.decode.Goals as goal
 
--- what `split_at` leaves is what follows the code
-abbrev follows : (c : Code) (shown body rest : List ℕ) → shown ≡ text c → rest ≡ drop (length shown) body → rest ≡ drop (length (text c)) body
-follows c shown body rest same rest-is = rest-is ∙ ap (λ (t : List ℕ). drop (length t) body) same
+pub returns-in_default-clause-bad : goal.returns-in_default-clause-bad
+returns-in_default-clause-bad c code rest begins = no_code c.args.from c.args.body.now code rest (search rules) begins
+
+pub returns-then-not-is_sent_by-clause-bad : goal.returns-then-not-is_sent_by-clause-bad
+returns-then-not-is_sent_by-clause-bad c =
+    let found = c.in-Some.code in
+    let not_sent : SentBy found c.args.from → ⊥ = λ s. never (c.if-not-is_sent_by.ensures.1 s) in (
+      (found, _, code_at-begins c.args.from c.args.body.now found (sym c.in-Some.ensures)),
+      λ code rest sent begins. no_sent c.args.from c.args.body.now found code rest (sym c.in-Some.ensures) not_sent sent begins,
+    )
 
 pub split_at-requires : goal.split_at-requires
-split_at-requires c = omega (arith, ap length c.text.ensures, text_fits c.args.body.now c.in-Some.code (sym c.in-Some.ensures))
+split_at-requires c = omega (arith, ap length c.text.ensures, text_fits c.args.from c.args.body.now c.in-Some.code (sym c.in-Some.ensures))
 
-pub returns-in-Ok-default-empty-clause-found : goal.returns-in-Ok-default-empty-clause-found
-returns-in-Ok-default-empty-clause-found c =
-    let m = c.in-Ok-default-empty in
-    let d = c.in-Some.code in
-    let body = c.args.body.now in
-    let sent : SentBy d c.args.from = search rules in
-    let rest-is = follows d c.text.result.now body c.split_at.result.1.now c.text.ensures c.split_at.ensures.back in
-    read_spells c.args.from d m.msg body m.field-0-1.now (λ i. omega (arith, c.type_inv.body i)) (code_at-begins body d (sym c.in-Some.ensures)) sent m.ensures.0
-    (ap (read_fields (kinds d)) (sym rest-is) ∙ m.ensures.1) (nil_from_length m.field-0-1.now (omega arith))
+pub returns-in-Err-Short-clause-bad : goal.returns-in-Err-Short-clause-bad
+returns-in-Err-Short-clause-bad c =
+    let sent : SentBy c.in-Some.code c.args.from = search rules in (
+      c.in-Err-Short.left,
+      reads_at c.args.from c.args.body.now c.in-Some.code c.text.result.now c.split_at.result.1.now (Err c.in-Err-Short.left) (sym c.in-Some.ensures) sent c.text.ensures c.split_at.ensures.back (subst (λ (e : ReadError). Fails e (read_fields (kinds c.in-Some.code) c.split_at.result.1.now)) c.in-Err-Short.field-0-is c.in-Err-Short.ensures),
+      search rules,
+    )
 
-pub returns-in-Ok-clause-bad : goal.returns-in-Ok-clause-bad
-returns-in-Ok-clause-bad c why m spells =
-    let d = c.in-Some.code in
-    let body = c.args.body.now in
-    let rest-is = follows d c.text.result.now body c.split_at.result.1.now c.text.ensures c.split_at.ensures.back in
-    reads_nothing_more _ m _ c.in-Ok.field-0-1.now (spelled_reads c.args.from d m body (code_at-begins body d (sym c.in-Some.ensures)) spells)
-    (ap (read_fields (kinds d)) (sym rest-is) ∙ c.in-Ok.ensures.1) (omega arith)
+pub returns-then-not-is_empty-clause-bad : goal.returns-then-not-is_empty-clause-bad
+returns-then-not-is_empty-clause-bad c =
+    let d = c.in-Ok.found in
+    let sent : SentBy c.in-Some.code c.args.from = search rules in
+    let some : 0 < length d.1.now = search rules in (
+      draft_fields d.0,
+      d.1.now,
+      reads_at c.args.from c.args.body.now c.in-Some.code c.text.result.now c.split_at.result.1.now _ (sym c.in-Some.ensures) sent c.text.ensures c.split_at.ensures.back c.in-Ok.ensures.1,
+      some,
+      search rules,
+    )
+
+pub returns-in-Ok-finish-clause-found : goal.returns-in-Ok-finish-clause-found
+returns-in-Ok-finish-clause-found c =
+    let d = c.in-Ok.found in
+    let m = c.in-Ok-finish in
+    let sent : SentBy c.in-Some.code c.args.from = search rules in
+    let ends : length d.1.now ≡ 0 = search rules in
+    let r = reads_at c.args.from c.args.body.now c.in-Some.code c.text.result.now c.split_at.result.1.now _ (sym c.in-Some.ensures) sent c.text.ensures c.split_at.ensures.back
+    (c.in-Ok.ensures.1 ∙ ap (λ (fs : List Field). Ok (fs, d.1.now)) (sym m.ensures.ok.1) ∙ ap (λ (t : List ℕ). Ok (fields m.msg, t)) (nil_from_length d.1.now ends)) in
+    read_spells c.args.from m.msg c.args.body.now r (λ i. omega (arith, c.type_inv.body i)) (m.ensures.ok.0 ∙ c.in-Ok.ensures.0)
 
 pub returns-in-Err-clause-bad : goal.returns-in-Err-clause-bad
-returns-in-Err-clause-bad c why m spells =
-    let d = c.in-Some.code in
-    let body = c.args.body.now in
-    let rest-is = follows d c.text.result.now body c.split_at.result.1.now c.text.ensures c.split_at.ensures.back in
-    reads_no_fault _ m c.in-Err.field-0.left (spelled_reads c.args.from d m body (code_at-begins body d (sym c.in-Some.ensures)) spells)
-    (ap (read_fields (kinds d)) (sym rest-is) ∙ c.in-Err.ensures)
+returns-in-Err-clause-bad c =
+    let d = c.in-Ok.found in
+    let sent : SentBy c.in-Some.code c.args.from = search rules in
+    let ends : length d.1.now ≡ 0 = search rules in
+    let r = reads_at c.args.from c.args.body.now c.in-Some.code c.text.result.now c.split_at.result.1.now (Ok (draft_fields d.0, [])) (sym c.in-Some.ensures) sent c.text.ensures c.split_at.ensures.back
+    (c.in-Ok.ensures.1 ∙ ap (λ (t : List ℕ). Ok (draft_fields d.0, t)) (nil_from_length d.1.now ends)) in
+    misfit_refuses c.in-Err.bad c.args.from c.args.body.now (draft_code d.0) (draft_fields d.0) r c.in-Ok.ensures.0 c.in-Err.ensures.err

@@ -1,0 +1,95 @@
+//! From a message to its body.
+
+ghost use Rattle.std.specs.Prelude.{◌≡◌, ◌+◌, ◌<◌, ◌≤◌, ◌++◌, ◌^◌, length, OnOk, OnErr};
+ghost use Rattle.std.specs.List.{flat_map, AllByRecursion};
+ghost use Rattle.std.specs.Int.{w32, to_be_bytes};
+ghost use Rattle.message_codec.specs.declared.messages.End.{End};
+ghost use Rattle.message_codec.specs.Fields.{spelled, spelled_all, Fits};
+ghost use Rattle.message_codec.specs.Table.{fields, code_of, SentBy};
+ghost use Rattle.message_codec.specs.Spelling.{body_of, Spells};
+ghost use Rattle.message_codec.specs.Seen.{seen};
+
+use crate::fields::{FieldRef, code, count, field};
+use crate::messages::Msg;
+use share_base::{Octets, OutOfMemory};
+use std::alloc::Global;
+
+fn field_len(part: FieldRef<'_>) -> u64
+    ensures value { result ≡ length (spelled (seen part.entry)) }
+    ensures bound { result < 2 ^ 63 + 4 }
+{
+    match part {
+        FieldRef::Byte(_) | FieldRef::Clip(_) | FieldRef::Mark(_) => 1,
+        FieldRef::Half(_) | FieldRef::Signed(_) => 2,
+        FieldRef::Word(_) => 4,
+        FieldRef::Text(bytes) => 4 + bytes.len() as u64,
+        FieldRef::Words(words) => 4 + 4 * words.len() as u64,
+    }
+}
+
+/// How many bytes the body of a message has.
+pub fn body_len(msg: &Msg) -> u64
+    ensures { result ≡ length (body_of msg.now) }
+{
+    let mut len = code(msg).text().len() as u64;
+    for i in 0..count(msg) {
+        len += field_len(field(msg, i));
+    }
+    len
+}
+
+fn put_words(out: &mut Octets, words: &[u32]) -> Result<(), OutOfMemory>
+    ensures ok { OnOk result (out.new ≡ out.old ++ flat_map (to_be_bytes w32) words.now) }
+    ensures fits { AllByRecursion (λ n. n < 2 ^ 32) words.now }
+{
+    for word in words {
+        out.extend(&word.to_be_bytes())?;
+    }
+    Ok(())
+}
+
+fn put_field(out: &mut Octets, part: FieldRef<'_>) -> Result<(), OutOfMemory>
+    requires { length (spelled (seen part)) ≤ 4194304 }
+    ensures ok { OnOk result (out.new ≡ out.old ++ spelled (seen part.entry)) }
+    ensures fits { OnOk result (Fits (seen part.entry)) }
+{
+    match part {
+        FieldRef::Byte(n) | FieldRef::Clip(n) | FieldRef::Mark(n) => out.push(n),
+        FieldRef::Half(n) => out.extend(&n.to_be_bytes()),
+        FieldRef::Signed(n) => out.extend(&n.cast_unsigned().to_be_bytes()),
+        FieldRef::Word(n) => out.extend(&n.to_be_bytes()),
+        FieldRef::Text(bytes) => {
+            out.extend(&(bytes.len() as u32).to_be_bytes())?;
+            out.extend(bytes)
+        }
+        FieldRef::Words(words) => {
+            out.extend(&(words.len() as u32).to_be_bytes())?;
+            put_words(out, words)
+        }
+    }
+}
+
+fn put_fields(out: &mut Octets, msg: &Msg) -> Result<(), OutOfMemory>
+    requires { length (spelled_all (fields msg.now)) ≤ 4194304 }
+    ensures ok { OnOk result (out.new ≡ out.old ++ spelled_all (fields msg.now)) }
+    ensures fits { OnOk result (AllByRecursion Fits (fields msg.now)) }
+{
+    for i in 0..count(msg) {
+        put_field(out, field(msg, i))?;
+    }
+    Ok(())
+}
+
+/// Adds the body of a message, which has at most 4,194,304 bytes (see `body_len`). After `OutOfMemory`
+/// `out` is unchanged.
+pub fn encode(alloc: Global, msg: &Msg, out: &mut Octets) -> Result<(), OutOfMemory>
+    requires { length (body_of msg.now) ≤ 4194304 }
+    ensures ok { OnOk result (out.new ≡ out.old ++ body_of msg.now) }
+    ensures spelled { OnOk result ((from : End) → SentBy (code_of msg.now) from → Spells from msg.now (body_of msg.now)) }
+    ensures err { OnErr result (out.new ≡ out.old) }
+{
+    let mut body = Octets::new(alloc);
+    body.extend(code(msg).text())?;
+    put_fields(&mut body, msg)?;
+    out.extend(body.as_slice())
+}
