@@ -1,5 +1,5 @@
 pub mod SingleWords
 pub mod Streams
-pub mod Going
+pub mod Showing
 pub mod Runs
 pub mod OneSplit

@@ -1,18 +1,15 @@
--- What a command that prints a stream writes of the bytes that it reads, how it ends, and where it stops to read.
-use Rattle.std.specs.Prelude.{◌≡◌, ◌≢◌, ℕ, ◌<◌, ◌≤◌, ◌⊎◌, Bool, List, [], ◌++◌, length, take, Option}
+-- What a command writes of the bytes that it reads, how it ends, and where it stops to read.
+use Rattle.std.specs.Prelude.{◌≡◌, ◌≢◌, ℕ, ◌<◌, ◌≤◌, Bool, List, [], ◌++◌, length, take, Option}
 use Rattle.share_base.specs.Told.{before, after, NoneLeft, IsSet, NotSet}
 use Rattle.share_base.specs.Writing.{TakesFront}
-use Rattle.share_base.specs.declared.reason.Reason.{Reason}
-use Rattle.share_base.specs.declared.reason.Reason.TheVariants as reason
 use Rattle.wire_frames.specs.Framing.{IsPartial}
 use Rattle.message_codec.specs.declared.messages.Msg.{Msg}
 use Rattle.message_codec.specs.Streams.{body_limit, frames_of}
-use Rattle.synergy_share.specs.declared.printing.Printing.{Printing}
-use Rattle.synergy_share.specs.declared.printing.Stop.TheVariants as stop
 use Rattle.synergy_share.specs.declared.status.Status.{Status}
 use Rattle.synergy_share.specs.declared.status.Status.TheVariants as status
-use Rattle.synergy_share.specs.Printing.{lines_of, end_between}
-use Rattle.synergy_share.specs.Begins.{Begins, HasStop, IsBad}
+use Rattle.synergy_share.specs.Ways.{Way}
+use Rattle.synergy_share.specs.Begins.{Begins, StopsAt}
+use Rattle.synergy_share.specs.Cores.{EndsHere}
 
 abbrev pub input_limit : ℕ
 input_limit = 1073741824
@@ -23,48 +20,41 @@ pub record AtEnd (read : List ℕ) (left : Option (List ℕ)) (ended : Option Bo
   pub answered : IsSet ended
   pub within : length read ≤ input_limit
 
--- it ended inside a frame
-abbrev pub IsCut : List ℕ → List ℕ → Option (List ℕ) → Option Bool → Type 0
-IsCut read rest left ended = IsPartial body_limit rest × (rest ≢ []) × AtEnd read left ended
+-- each end with its cause, after these bytes were read, at a rest that stands at that place
+pub data EndsAt (w : Way) (end : Status) (read : List ℕ) (left : Option (List ℕ)) (ended : Option Bool) (place : ℕ) (rest : List ℕ) : Type 0 where
+  by_frame : StopsAt w end place rest → EndsAt w end read left ended place rest
+  at_the_end : IsPartial body_limit rest → EndsHere w end place rest → AtEnd read left ended → EndsAt w end read left ended place rest
+  too_long : end ≡ status.InputTooLong → IsPartial body_limit rest → input_limit < length read → EndsAt w end read left ended place rest
+  read_fault : end ≡ status.ReadFault → IsPartial body_limit rest → EndsAt w end read left ended place rest
+  write_fault : end ≡ status.WriteFault → EndsAt w end read left ended place rest
+  no_memory : end ≡ status.OutOfMemory → EndsAt w end read left ended place rest
 
--- it ended between frames
-abbrev pub IsWhole : List ℕ → List ℕ → Option (List ℕ) → Option Bool → Type 0
-IsWhole read rest left ended = (rest ≡ []) × AtEnd read left ended
+-- all the lines of the messages, and those at the end
+abbrev pub all_lines : Way → List Msg → List ℕ
+all_lines w messages = w.text messages ++ w.releases messages
 
--- how the command ends after it has read these bytes, at a rest that stands at that place
-abbrev pub EndsAt : Printing → Status → List ℕ → Option (List ℕ) → Option Bool → ℕ → List ℕ → Type 0
-EndsAt p status.Ok read left ended place rest = HasStop p stop.Bye rest ⊎ ((end_between p ≡ status.Ok) × IsWhole read rest left ended)
-EndsAt p (status.BadFrames at why) read left ended place rest = (at ≡ place) × (IsBad p why rest ⊎ ((why ≡ reason.Cut) × IsCut read rest left ended))
-EndsAt p (status.NotYet at) read left ended place rest = (at ≡ place) × HasStop p stop.NotYet rest
-EndsAt p (status.Lost cause) read left ended place rest = (end_between p ≡ status.Lost cause) × IsWhole read rest left ended
-EndsAt p status.InputTooLong read left ended place rest = IsPartial body_limit rest × (input_limit < length read)
-EndsAt p status.ReadFault read left ended place rest = IsPartial body_limit rest
-EndsAt p status.WriteFault read left ended place rest = Unit {0}
-EndsAt p status.OutOfMemory read left ended place rest = Unit {0}
-EndsAt p status.Usage read left ended place rest = ⊥
-
--- what the sink took: all the lines of the messages, or a front of them where it failed
-abbrev pub Writes : Printing → Status → List Msg → Option (List ℕ) → Option (List ℕ) → Type 0
-Writes p status.WriteFault messages old new = TakesFront (lines_of p messages) old new
-Writes p end messages old new = new ≡ after old (lines_of p messages)
+-- what the sink took: all of the lines, or a front of them where it failed
+abbrev pub Writes : Way → Status → List Msg → Option (List ℕ) → Option (List ℕ) → Type 0
+Writes w status.WriteFault messages old new = TakesFront (all_lines w messages) old new
+Writes w end messages old new = new ≡ after old (all_lines w messages)
 
 -- bytes were read; those within the limit begin with messages, at whose rest the command ends; and their lines were written
-pub record Reads (p : Printing) (end : Status) (left left' : Option (List ℕ)) (ended' : Option Bool) (taken taken' : Option (List ℕ)) : Type 0 where
+pub record Reads (w : Way) (end : Status) (left left' : Option (List ℕ)) (ended' : Option Bool) (taken taken' : Option (List ℕ)) : Type 0 where
   pub read : List ℕ
   pub consumed : left ≡ before read left'
   pub messages : List Msg
   pub rest : List ℕ
-  pub begins : Begins p messages (take input_limit read) rest
-  pub ending : EndsAt p end read left' ended' (length (frames_of messages)) rest
-  pub writes : Writes p end messages taken taken'
+  pub begins : Begins w messages (take input_limit read) rest
+  pub ending : EndsAt w end read left' ended' (length (frames_of messages)) rest
+  pub writes : Writes w end messages taken taken'
 
 -- before the latest read no read had answered the end, and the bytes read were within the limit and left the command going on
-pub record Stops (p : Printing) (left left_before : Option (List ℕ)) (ended_before : Option Bool) : Type 0 where
+pub record Stops (w : Way) (left left_before : Option (List ℕ)) (ended_before : Option Bool) : Type 0 where
   pub earlier : List ℕ
   pub consumed : left ≡ before earlier left_before
   pub not_ended : NotSet ended_before
   pub within : length earlier ≤ input_limit
   pub messages : List Msg
   pub rest : List ℕ
-  pub begins : Begins p messages earlier rest
+  pub begins : Begins w messages earlier rest
   pub partial : IsPartial body_limit rest

@@ -1,10 +1,9 @@
-pub mod Printing
-pub mod BadFrames
+pub mod Ways
 pub mod Begins
-pub mod Taking
-pub mod Keeping
+pub mod Showing
+pub mod Cores
+pub mod Shower
 pub mod Commands
 pub mod Causes
 pub mod Statuses
 pub mod Words
-pub mod Forms

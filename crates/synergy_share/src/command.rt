@@ -4,11 +4,13 @@ ghost use Rattle.std.specs.Prelude.{◌≡◌, IfSome, IfNone};
 ghost use Rattle.synergy_share.specs.declared.command.Command.{Command};
 ghost use Rattle.synergy_share.specs.Words.{Names};
 
+use message_codec::End;
+
 /// A command of the program.
 #[derive(Clone, Copy, Debug, PartialEq, Eq)]
 pub enum Command {
-    /// Frames of a server from standard input, as printed lines.
-    Inject,
+    /// Frames of that end from standard input, as show lines.
+    Show(End),
 }
 
 /// The command that the words name. They are those after the program's name, and their number is
@@ -18,7 +20,12 @@ pub fn form(words: &[String]) -> Option<Command>
     ensures none { IfNone result ((command : Command) → Names command words.now → ⊥) }
 {
     match words {
-        [word] if word.as_str() == "inject" => Some(Command::Inject),
+        [show, end] if show.as_str() == "show" && end.as_str() == "server" => {
+            Some(Command::Show(End::Server))
+        }
+        [show, end] if show.as_str() == "show" && end.as_str() == "client" => {
+            Some(Command::Show(End::Client))
+        }
         _ => None,
     }
 }

@@ -7,21 +7,22 @@
 
 mod command;
 mod commands;
-mod injection_lines;
 mod laws;
-mod line_reader;
-mod printing;
+mod line_core;
 mod real;
+mod show_core;
+mod show_next;
 mod status;
-mod taking;
 #[cfg(test)]
 mod tests;
 mod top;
 
 pub use command::{Command, form};
-pub use commands::run_inject;
+pub use commands::run_show;
 pub use laws::one_reading;
+pub use line_core::LineCore;
 pub use real::{StdSink, StdSource};
+pub use show_core::ShowCore;
 pub use status::{LostCause, Status};
 use std::env;
 use std::io::{ErrorKind, Write};
