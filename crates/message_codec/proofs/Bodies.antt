@@ -1,5 +1,5 @@
 -- Bodies and the messages that they spell.
-use Rattle.std.proofs.Common.{◌≡◌, ℕ, ◌≤◌, List, [], ◌++◌, length, drop, map, Ok, Some, refl, sym, ap, subst, ◌∙◌, arith}
+use Rattle.std.proofs.Common.{◌≡◌, ℕ, List, [], ◌++◌, length, drop, map, Ok, Some, refl, sym, ap, subst, ◌∙◌}
 use Rattle.std.proofs.lemmas.List.{append-nil}
 use Rattle.message_codec.specs.declared.messages.End.{End}
 use Rattle.message_codec.specs.declared.messages.Msg.{Msg}
@@ -10,9 +10,9 @@ use Rattle.message_codec.specs.Fields.{Field, kind_of, spelled_all}
 use Rattle.message_codec.specs.Reading.{Read, read_fields}
 use Rattle.message_codec.specs.Table.{text, SentBy, kinds, code_of, fields}
 use Rattle.message_codec.specs.Spelling.{Spells}
-use Rattle.message_codec.specs.Refusals.{Reads}
 use Rattle.message_codec.specs.Codes.{code_at}
 use Rattle.message_codec.proofs.CodeTexts.{one_code, drop-text, code_at-begins}
+use Rattle.message_codec.proofs.ReadFaults.{Reads}
 use Rattle.message_codec.proofs.Readers.{IsBytes, IsBytes-drop, ok_is}
 use Rattle.message_codec.proofs.FieldLaws.{fields_take, fields_again}
 use Rattle.message_codec.proofs.Building.{same_parts}

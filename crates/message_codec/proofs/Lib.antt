@@ -3,8 +3,11 @@ pub mod Readers
 pub mod FieldLaws
 pub mod WordLoop
 pub mod Building
+pub mod ReadFaults
 pub mod Bodies
 pub mod Misfits
+pub mod ShortFields
+pub mod FaultForms
 pub mod RefusalLaws
 pub mod Putting
 pub mod Narrow

@@ -1,5 +1,5 @@
 -- A stream has one verdict.
-use Rattle.std.proofs.Common.{◌≡◌, ℕ, ◌+◌, ◌^◌, ◌<◌, ◌≤◌, Bool, true, false, List, [], ◌∷◌, ◌++◌, length, Option, Some, None, refl, sym, ap, subst, ◌∙◌, append_assoc, arith, inl, inr}
+use Rattle.std.proofs.Common.{◌≡◌, ℕ, ◌^◌, ◌<◌, ◌≤◌, Bool, true, false, List, [], ◌∷◌, ◌++◌, length, Option, Some, None, refl, sym, ap, subst, ◌∙◌, append_assoc, arith, inl, inr}
 use Rattle.std.specs.Prelude.{◌⊎◌}
 use Rattle.std.proofs.lemmas.List.{append-nil}
 use Rattle.std.proofs.lemmas.List.Concat.{flat_map-cons}
@@ -7,12 +7,11 @@ use Rattle.share_base.specs.declared.reason.Reason.{Reason}
 use Rattle.share_base.specs.declared.reason.Reason.TheVariants as reason
 use Rattle.wire_frames.specs.Framing.{frame, IsPartial, IsTooLong}
 use Rattle.wire_frames.proofs.OneFrame.{one_frame, frame_is_whole, frame_fits}
-use Rattle.message_codec.specs.declared.messages.End.{End}
 use Rattle.message_codec.specs.declared.messages.Msg.{Msg}
 use Rattle.message_codec.specs.Spelling.{body_of, Spells}
 use Rattle.message_codec.specs.Refusals.{Refuses}
 use Rattle.message_codec.specs.Reasons.{reason_of}
-use Rattle.message_codec.specs.Streams.{body_limit, frame_of, frames_of, Reader, IsGood, AllGood}
+use Rattle.message_codec.specs.Streams.{frame_of, frames_of, Reader, IsGood, AllGood}
 use Rattle.message_codec.specs.Verdicts.{IsRefused, IsMisplaced, IsBad, Rests, Verdict}
 use Rattle.message_codec.proofs.Bodies.{one_message}
 use Rattle.message_codec.proofs.RefusalLaws.{refused_spells_none, one_refusal}

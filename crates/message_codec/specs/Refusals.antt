@@ -1,22 +1,60 @@
 -- Why a body spells no message.
-use Rattle.std.specs.Prelude.{◌≡◌, ℕ, ◌+◌, ◌-◌, ◌<◌, Bool, false, nat_lt, ◌||◌, List, [], ◌++◌, length, take, position, Option, Some, None, Ok, Err}
+use Rattle.std.specs.Prelude.{◌≡◌, ℕ, ◌+◌, ◌<◌, ◌^◌, ◌⊎◌, Bool, false, nat_lt, ◌||◌, List, [], ◌∷◌, ◌++◌, length, map, take, position, Option, Some, None}
+use Rattle.std.specs.List.{flat_map, AllByRecursion}
+use Rattle.std.specs.Int.{w32, to_be_bytes}
 use Rattle.message_codec.specs.declared.messages.End.{End}
 use Rattle.message_codec.specs.declared.coding.Code.{Code}
 use Rattle.message_codec.specs.declared.faults.BadBody.{BadBody}
 use Rattle.message_codec.specs.declared.faults.BadBody.TheVariants as bad
 use Rattle.message_codec.specs.declared.faults.DecodeFault.{DecodeFault}
 use Rattle.message_codec.specs.declared.faults.DecodeFault.TheVariants as fault
-use Rattle.message_codec.specs.Fields.{Field, Byte, Half, Signed, Word, Clip, Mark, Text, Words, spelled_all}
-use Rattle.message_codec.specs.Reading.{Read, read_fields}
+use Rattle.message_codec.specs.Kinds.{Kind}
+use Rattle.message_codec.specs.Kinds as kind
+use Rattle.message_codec.specs.Fields.{Field, Byte, Half, Signed, Word, Clip, Mark, Text, Words, kind_of, Fits, spelled_all}
 use Rattle.message_codec.specs.Table.{text, SentBy, kinds}
 
--- the body begins with a code that this end sends, and the fields of its row are read so
-pub record Reads (from : End) (body : List ℕ) (read : Read (List Field)) : Type 0 where
+-- the body is a code that this end sends, then these fields, and then a rest
+pub record Begins (from : End) (body : List ℕ) (c : Code) (fs : List Field) (rest : List ℕ) : Type 0 where
+  pub sent : SentBy c from
+  pub fits : AllByRecursion Fits fs
+  pub body_is : body ≡ text c ++ (spelled_all fs ++ rest)
+
+-- ---- a part that doesn't fit
+
+-- nothing of a field is there, and fewer bytes than its first part has
+abbrev pub LacksFirst : ℕ → List ℕ → List ℕ → Type 0
+LacksFirst size parts left = (parts ≡ []) × (length left < size)
+
+-- whole parts of a field of that kind are there, and fewer bytes than its next part has. A string is its length and its bytes, and a list is its count and each of its integers
+abbrev pub Lacks : Kind → List ℕ → List ℕ → Type 0
+Lacks kind.byte parts left = LacksFirst 1 parts left
+Lacks kind.clip parts left = LacksFirst 1 parts left
+Lacks kind.mark parts left = LacksFirst 1 parts left
+Lacks kind.half parts left = LacksFirst 2 parts left
+Lacks kind.signed parts left = LacksFirst 2 parts left
+Lacks kind.word parts left = LacksFirst 4 parts left
+Lacks kind.text parts left = LacksFirst 4 parts left ⊎ ((n : ℕ) × (n < 2 ^ 32) × (parts ≡ to_be_bytes w32 n) × (length left < n))
+Lacks kind.words parts left = LacksFirst 4 parts left ⊎ ((n : ℕ) × (ns : List ℕ) × (n < 2 ^ 32) × (parts ≡ to_be_bytes w32 n ++ flat_map (to_be_bytes w32) ns) × (length ns < n) × (length left < 4))
+
+-- fields of the row are whole, and a part of the next one doesn't fit
+pub record IsShort (from : End) (body : List ℕ) (at : ℕ) : Type 0 where
   pub code : Code
-  pub sent : SentBy code from
-  pub after : List ℕ
-  pub begins : body ≡ text code ++ after
-  pub reading : read_fields (kinds code) after ≡ read
+  pub whole : List Field
+  pub next : Kind
+  pub later : List Kind
+  pub parts : List ℕ
+  pub left : List ℕ
+  pub begins : Begins from body code whole (parts ++ left)
+  pub row : kinds code ≡ map kind_of whole ++ next ∷ later
+  pub lacks : Lacks next parts left
+  pub place : at ≡ length (text code) + length (spelled_all whole) + length parts
+
+-- ---- whole fields
+
+-- all fields of the row are whole, and then comes a rest
+pub record Whole (from : End) (body : List ℕ) (c : Code) (fs : List Field) (rest : List ℕ) : Type 0 where
+  pub begins : Begins from body c fs rest
+  pub row : kinds c ≡ map kind_of fs
 
 -- a clipboard above 1
 abbrev pub is_bad_clip : Field → Bool
@@ -53,14 +91,16 @@ Misfits bad.WrongEnd c fs = ⊥
 Misfits (bad.Short at) c fs = ⊥
 Misfits (bad.Trailing at) c fs = ⊥
 
--- no code begins the body; or none that this end sends; a part of a field doesn't fit; bytes stand after the fields; or a field is out of range
+-- ---- the six refusals
+
+-- no code begins the body; or none that this end sends; or a part of a field doesn't fit; or bytes stand after the fields; or a field is out of range
 abbrev pub Refuses : BadBody → End → List ℕ → Type 0
 Refuses bad.UnknownCode from body = (c : Code) (rest : List ℕ) → body ≡ text c ++ rest → ⊥
 Refuses bad.WrongEnd from body = ((c : Code) × (rest : List ℕ) × (body ≡ text c ++ rest)) × ((c : Code) (rest : List ℕ) → SentBy c from → body ≡ text c ++ rest → ⊥)
-Refuses (bad.Short at) from body = (left : ℕ) × Reads from body (Err left) × (at ≡ length body - left)
-Refuses (bad.Trailing at) from body = (fs : List Field) × (rest : List ℕ) × Reads from body (Ok (fs, rest)) × (0 < length rest) × (at ≡ length body - length rest)
-Refuses (bad.BadClip at) from body = (fs : List Field) × (r : Reads from body (Ok (fs, []))) × Misfits (bad.BadClip at) r.code fs
-Refuses (bad.BadMark at) from body = (fs : List Field) × (r : Reads from body (Ok (fs, []))) × Misfits (bad.BadMark at) r.code fs
+Refuses (bad.Short at) from body = IsShort from body at
+Refuses (bad.Trailing at) from body = (c : Code) × (fs : List Field) × (rest : List ℕ) × Whole from body c fs rest × (0 < length rest) × (at ≡ length (text c) + length (spelled_all fs))
+Refuses (bad.BadClip at) from body = (c : Code) × (fs : List Field) × Whole from body c fs [] × Misfits (bad.BadClip at) c fs
+Refuses (bad.BadMark at) from body = (c : Code) × (fs : List Field) × Whole from body c fs [] × Misfits (bad.BadMark at) c fs
 
 -- a fault of decoding has its cause in the body; want of memory has none
 abbrev pub RefusedFor : DecodeFault → End → List ℕ → Type 0

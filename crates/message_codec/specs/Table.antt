@@ -1,6 +1,5 @@
 -- The table of messages: what each begins with, who sends it, and its fields.
-use Rattle.std.specs.Prelude.{◌≡◌, ℕ, List, [], ◌∷◌, Option, Some, codes, find, nat_eq, if◌then◌else◌}
-use Rattle.std.specs.List.{starts_with}
+use Rattle.std.specs.Prelude.{◌≡◌, ℕ, List, [], ◌∷◌, codes}
 use Rattle.share_base.specs.Clips.{clip_number}
 use Rattle.message_codec.specs.declared.messages.End.{End}
 use Rattle.message_codec.specs.declared.messages.End.TheVariants as ends

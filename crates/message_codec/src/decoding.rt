@@ -33,12 +33,12 @@ pub fn decode(alloc: Global, from: End, body: &[u8]) -> Result<Msg, DecodeFault>
         Ok(found) => found,
         Err(ReadError::Memory) => return Err(DecodeFault::OutOfMemory),
         Err(ReadError::Short { left }) => {
-            let at = body.len().saturating_sub(left) as u32;
+            let at = (body.len() - left) as u32;
             return Err(DecodeFault::Bad(BadBody::Short { at }));
         }
     };
     if !rest.is_empty() {
-        let at = body.len().saturating_sub(rest.len()) as u32;
+        let at = (body.len() - rest.len()) as u32;
         return Err(DecodeFault::Bad(BadBody::Trailing { at }));
     }
     match finish(draft) {

@@ -17,6 +17,8 @@ mod messages;
 mod reading;
 mod rows;
 mod showing;
+#[cfg(test)]
+mod tests;
 
 pub use clip_mark::ClipMark;
 pub use decoding::decode;

@@ -1,2 +1,4 @@
 pub mod ToldLists
 pub mod Digits
+pub mod ScreenBits
+pub mod FlatMaps

@@ -5,3 +5,7 @@ pub mod Writing
 pub mod Memory
 pub mod Clips
 pub mod Reasons
+pub mod Names
+pub mod Stored
+pub mod Screens
+pub mod Shapes

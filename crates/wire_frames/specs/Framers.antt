@@ -19,3 +19,7 @@ fed f piece = record { given = f.given; rest = if f.over then f.rest else f.rest
 -- the front of the rest became given
 abbrev pub moved : FramerParts → ℕ → List ℕ → FramerParts
 moved f count rest = record { given = f.given + count; rest = rest; limit = f.limit; over = f.over }
+
+-- the limit was raised
+abbrev pub raised : FramerParts → ℕ → FramerParts
+raised f limit = record { given = f.given; rest = f.rest; limit = limit; over = f.over }

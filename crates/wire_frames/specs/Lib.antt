@@ -1,3 +1,5 @@
 pub mod Framing
 pub mod Framers
 pub mod Steps
+pub mod Calls
+pub mod Holding

@@ -8,6 +8,7 @@ use Rattle.wire_frames.specs.declared.framer.FrameStep.TheVariants.{Frame, More,
 use Rattle.wire_frames.specs.contracts.framer.Framer.{the_row}
 use Rattle.wire_frames.specs.Framing.{frame, length_field, IsPartial, IsTooLong}
 use Rattle.wire_frames.specs.Framers.{FramerParts, moved}
+use Rattle.wire_frames.specs.Calls.{Call, Gave, Waited, Refused}
 
 -- the body's frame, within the limit, stands at the front
 pub record IsFirst (limit : ℕ) (body bytes : List ℕ) : Type 0 where
@@ -29,3 +30,9 @@ after_next f (TooLong place len) = record { given = f.given; rest = f.rest; limi
 -- that is what stands once the borrow of the body ends
 abbrev pub RestsAfter : MutBor Framer → FrameStep → Fml
 RestsAfter f answer = Rests the_row f (λ new. new ≡ after_next f.now answer)
+
+-- the answer as a call that was made
+abbrev pub told : FrameStep → Call
+told (Frame place body) = Gave place body.now
+told More = Waited
+told (TooLong place len) = Refused place len

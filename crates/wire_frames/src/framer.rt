@@ -1,18 +1,20 @@
 //! Cutting a stream into frames.
 
-ghost use Rattle.std.specs.Prelude.{◌≡◌, ◌+◌, ◌^◌, ◌<◌, ◌≤◌, ◌++◌, [], Bool, List, ℕ, false, drop, length, take, OnOk, OnErr};
+ghost use Rattle.std.specs.Prelude.{◌≡◌, ◌+◌, ◌^◌, ◌<◌, ◌≤◌, ◌++◌, ◌∷◌, [], Bool, List, ℕ, false, drop, length, take, OnOk, OnErr};
 ghost use Rattle.std.specs.Borrow.{sem};
 ghost use Rattle.std.specs.Int.{w32, to_be_bytes};
 ghost use Rattle.wire_frames.specs.Framing.{length_field};
-ghost use Rattle.wire_frames.specs.Framers.{FramerParts, begun, fed};
-ghost use Rattle.wire_frames.specs.Steps.{Answers, RestsAfter};
+ghost use Rattle.wire_frames.specs.Framers.{FramerParts, begun, fed, raised};
+ghost use Rattle.wire_frames.specs.Calls.{Call, Fed, Raised, StandsFor};
+ghost use Rattle.wire_frames.specs.Steps.{Answers, RestsAfter, after_next, told};
 
 use share_base::OutOfMemory;
 use std::alloc::Global;
 use std::marker::Model;
 
-/// Cuts a stream into frames. It keeps the stream's bytes after the frames that it gave. Contracts
-/// see it as `FramerParts`.
+/// Cuts a stream into frames. It keeps the stream's bytes after the frames that it gave, and until the
+/// next call of `feed` or `next` the frame that it gave last. Contracts see it as `FramerParts`, and
+/// each call says that these stand for the list of calls so far with that call added.
 #[derive(Drop)]
 pub struct Framer {
     bytes: Vec<u8>,
@@ -31,7 +33,7 @@ impl Model for Framer {
 
     ghost view = { λ f. record { given = f.gone + f.last; rest = drop f.last f.bytes.items; limit = f.limit; over = f.over } };
 
-    ghost invariant = { λ f. (f.last ≤ length f.bytes.items) × (f.gone + length f.bytes.items < 2 ^ 63) × (f.limit ≤ 4194304) × (f.over ≡ true → IsTooLong f.limit (drop f.last f.bytes.items)) };
+    ghost invariant = { λ f. (f.last ≤ length f.bytes.items) × (f.gone + length f.bytes.items < 2 ^ 63) × (f.limit ≤ 4194304) × (f.last ≤ 4 + f.limit) × (f.over ≡ true → IsTooLong f.limit (drop f.last f.bytes.items)) };
 }
 
 /// What stands at the front of the stream's rest. A place is the number of bytes of the stream before
@@ -84,7 +86,8 @@ impl Framer {
     /// memory yet.
     pub fn new(alloc: Global, limit: u32) -> Framer
         requires { limit ≤ 4194304 }
-        ensures { result ≡ begun limit }
+        ensures begun { result ≡ begun limit }
+        ensures stands { StandsFor limit result [] }
     {
         Framer {
             bytes: Vec::new(alloc),
@@ -101,6 +104,8 @@ impl Framer {
         requires { self.old.given + length self.old.rest + length piece.now < 2 ^ 63 }
         ensures ok { OnOk result (self.new ≡ fed self.old piece.now) }
         ensures err { OnErr result (self.new ≡ self.old) }
+        ensures stands { OnOk result ((first : ℕ) (calls : List Call) → StandsFor first self.old calls
+            → StandsFor first self.new (Fed piece.now ∷ calls)) }
     {
         if self.over {
             return Ok(());
@@ -111,10 +116,14 @@ impl Framer {
     }
 
     /// What stands at the front of the rest. It takes no memory.
-    #[tactic(auto, using(crate::proofs::First::bounded))]
+    #[tactic(auto, using(crate::proofs::First::bounded, crate::proofs::Histories::stands_refused))]
     pub fn next(&mut self) -> FrameStep<'_>
         ensures answers { Answers self.old result }
         ensures bound { self.old.given + length self.old.rest < 2 ^ 63 }
+
+        // What stands for the calls after it is what is left.
+        ensures stands { (first : ℕ) (calls : List Call) → StandsFor first self.old calls
+            → StandsFor first (after_next self.old result) (told result ∷ calls) }
         ensures* after_borrow { sem 𝓛 (RestsAfter self.entry result) }
     {
         drop_last(&mut self.bytes, &mut self.gone, &mut self.last);
@@ -138,5 +147,18 @@ impl Framer {
             place: self.gone,
             body: &self.bytes[4..end],
         }
+    }
+
+    /// Lets later frames have bodies of at most `limit` bytes, which is no less than the limit so far.
+    /// It takes no memory.
+    pub fn raise_limit(&mut self, limit: u32)
+        requires rises { self.old.limit ≤ limit }
+        requires within { limit ≤ 4194304 }
+        requires not_over { self.old.over ≡ false }
+        ensures raised { self.new ≡ raised self.old limit }
+        ensures stands { (first : ℕ) (calls : List Call) → StandsFor first self.old calls
+            → StandsFor first self.new (Raised limit ∷ calls) }
+    {
+        self.limit = limit;
     }
 }

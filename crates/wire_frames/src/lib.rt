@@ -1,16 +1,19 @@
 //! Frames on a stream of bytes, in whatever pieces it comes: a length of four bytes, big-endian, and
 //! then exactly so many bytes of body (protocol reference, framing).
 //!
-//! It owns framing (`specs/Framing.antt`) and what a framer keeps (`specs/Framers.antt`). It may know
-//! no message, and nothing of where bytes come from.
+//! It owns framing (`specs/Framing.antt`), what a framer keeps (`specs/Framers.antt`) and what it has
+//! done over all its calls (`specs/Calls.antt`, `specs/Holding.antt`). It may know no message, and
+//! nothing of where bytes come from.
 #![tactic(auto)]
 
 mod framer;
 mod laws;
 mod limits;
+mod putting;
 #[cfg(test)]
 mod tests;
 
 pub use framer::{FrameStep, Framer};
-pub use laws::one_frame;
+pub use laws::{holds_little, however_cut, one_frame, one_framing};
 pub use limits::BODY_LIMIT;
+pub use putting::put_frame;

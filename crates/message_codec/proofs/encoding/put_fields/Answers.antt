@@ -1,4 +1,4 @@
-use Rattle.std.proofs.Common.{◌≤◌, arith}
+use Rattle.std.proofs.Common.{arith}
 use Rattle.message_codec.specs.Fields.{spelled, Fits}
 use Rattle.message_codec.specs.Seen.{seen}
 use Rattle.message_codec.specs.Table.{fields}

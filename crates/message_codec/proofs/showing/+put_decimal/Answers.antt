@@ -1,4 +1,4 @@
-use Rattle.std.proofs.Common.{◌+◌, ◌/◌, ◌%◌, List, ℕ, [], ◌∷◌, ◌++◌, ap, sym, refl, arith}
+use Rattle.std.proofs.Common.{◌+◌, ◌%◌, List, ℕ, [], ◌∷◌, ◌++◌, ap, sym, refl, arith}
 use Rattle.std.specs.Fmt.{decimal}
 use Rattle.std.proofs.lemmas.Fmt.{decimal_digit}
 use Rattle.std.proofs.lemmas.Result.{IfOk-equal}

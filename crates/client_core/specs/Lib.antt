@@ -1,0 +1,5 @@
+pub mod Hearing
+pub mod Showing
+pub mod Ends
+pub mod Kept
+pub mod Taking

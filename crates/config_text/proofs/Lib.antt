@@ -1,0 +1,5 @@
+pub mod Acceptance
+pub mod Bounds
+pub mod LineRuns
+pub mod NewLinks
+pub mod Overlapping

@@ -1,0 +1,13 @@
+pub mod Accepting
+pub mod Answering
+pub mod Configurations
+pub mod Drafts
+pub mod Judging
+pub mod Lines
+pub mod Sections
+pub mod Globals
+pub mod Normal
+pub mod Seen
+pub mod Shapes
+pub mod Sides
+pub mod Sound

@@ -1,0 +1,101 @@
+-- The normal form: each section once, screens and aliases in the order of the text, links by side and then by where
+-- they begin, options in the order of their table.
+use Rattle.std.specs.Prelude.{ℕ, Bool, ◌==◌, ◌&&◌, if◌then◌else◌, List, [], ◌∷◌, ◌++◌, length, Option, Some, None, codes, slice_get}
+use Rattle.std.specs.List.{flat_map, find, range_with_len}
+use Rattle.std.specs.Fmt.{decimal}
+use Rattle.share_base.specs.declared.shape.Side.{Side}
+use Rattle.text_lines.specs.Reading.{is_empty}
+use Rattle.screen_links.specs.declared.link.Link.{Link}
+use Rattle.screen_links.specs.declared.range.Range.{Range}
+use Rattle.option_table.specs.Printed.{option_lines}
+use Rattle.config_text.specs.declared.screens.Screen.{Screen}
+use Rattle.config_text.specs.declared.screens.Alias.{Alias}
+use Rattle.config_text.specs.Configurations.{Configuration}
+use Rattle.config_text.specs.Judging.{same_side}
+use Rattle.config_text.specs.Sides.{side_text, sides}
+
+abbrev pub one_tab : List ℕ
+one_tab = 9 ∷ []
+
+abbrev pub two_tabs : List ℕ
+two_tabs = 9 ∷ 9 ∷ []
+
+-- a header's line, and a header with the lines below it, where there are any
+unfoldable pub header_text : List ℕ → List ℕ
+header_text name = (one_tab ++ name) ++ 58 ∷ 10 ∷ []
+
+abbrev pub block_text : List ℕ → List ℕ → List ℕ
+block_text name below = if is_empty below then [] else header_text name ++ below
+
+-- section: NAME, its lines, end
+unfoldable pub section_of : List ℕ → List ℕ → List ℕ
+section_of name below = ((codes "section: " ++ name) ++ 10 ∷ []) ++ (below ++ (codes "end" ++ 10 ∷ []))
+
+-- ---- screens
+
+unfoldable pub screen_text : Screen → List ℕ
+screen_text s = header_text s.name ++ option_lines two_tabs s.settings
+
+abbrev pub screens_text : Configuration → List ℕ
+screens_text c = flat_map screen_text c.screens
+
+-- the name of a screen, by its number
+abbrev pub name_in : Option Screen → List ℕ
+name_in None = []
+name_in (Some s) = s.name
+
+abbrev pub name_of : Configuration → ℕ → List ℕ
+name_of c n = name_in (slice_get c.screens n)
+
+-- the numbers of the screens
+unfoldable pub numbers_of : Configuration → List ℕ
+numbers_of c = range_with_len 0 (length c.screens)
+
+-- ---- aliases
+
+unfoldable pub alias_text : ℕ → Alias → List ℕ
+alias_text n a = if a.screen == n then (two_tabs ++ a.name) ++ 10 ∷ [] else []
+
+unfoldable pub aliases_of : Configuration → ℕ → List ℕ
+aliases_of c n = block_text (name_of c n) (flat_map (alias_text n) c.aliases)
+
+abbrev pub aliases_text : Configuration → List ℕ
+aliases_text c = flat_map (aliases_of c) (numbers_of c)
+
+-- ---- links
+
+-- (a,b), where it isn't (0,100)
+unfoldable pub range_text : Range → List ℕ
+range_text r =
+    if (r.a == 0) && (r.b == 100) then [] else (((codes "(" ++ decimal r.a) ++ codes ",") ++ decimal r.b) ++ codes ")"
+
+unfoldable pub link_text : Configuration → Link → List ℕ
+link_text c l =
+    (((((two_tabs ++ side_text l.side) ++ range_text l.range) ++ codes " = ") ++ name_of c l.to.0) ++ range_text l.onto) ++ 10 ∷ []
+
+abbrev pub maybe_link : Configuration → Option Link → List ℕ
+maybe_link c None = []
+maybe_link c (Some l) = link_text c l
+
+-- the link of that side of that screen which begins at that hundredth
+unfoldable pub link_at : Configuration → ℕ → Side → ℕ → List ℕ
+link_at c n side a = maybe_link c (find (λ l. (l.from.0 == n) && same_side l.side side && (l.range.a == a)) c.links)
+
+unfoldable pub hundredths : List ℕ
+hundredths = range_with_len 0 100
+
+unfoldable pub side_links : Configuration → ℕ → Side → List ℕ
+side_links c n side = flat_map (link_at c n side) hundredths
+
+unfoldable pub links_of : Configuration → ℕ → List ℕ
+links_of c n = block_text (name_of c n) (flat_map (side_links c n) sides)
+
+abbrev pub links_text : Configuration → List ℕ
+links_text c = flat_map (links_of c) (numbers_of c)
+
+-- ---- all
+
+unfoldable pub normal : Configuration → List ℕ
+normal c =
+    ((section_of (codes "screens") (screens_text c) ++ section_of (codes "aliases") (aliases_text c))
+    ++ section_of (codes "links") (links_text c)) ++ section_of (codes "options") (option_lines one_tab c.settings)

@@ -1,0 +1,140 @@
+//! The faults of names and links in what the lines above gave.
+
+ghost use Rattle.std.specs.Prelude.{◌≡◌, ◌<◌, ◌≤◌, ◌+◌, IfOk, OnOk, length};
+ghost use Rattle.text_lines.specs.Seen.{word_text};
+ghost use Rattle.screen_links.specs.Ranges.{IsGood};
+ghost use Rattle.config_text.specs.Answering.{Judges};
+ghost use Rattle.config_text.specs.Judging as spec;
+ghost use Rattle.config_text.specs.Seen.{link_text, maybe_range_text};
+
+use crate::config::Config;
+use crate::faults::{ConfigKind, Fault, LineFault};
+use crate::shapes::{LinkText, RangeText};
+use crate::words::unless;
+use screen_links::{LinkFault, Range};
+use share_base::ScreenName;
+use text_lines::Word;
+
+fn refusal<T>(kind: ConfigKind, left: usize) -> Result<T, LineFault>
+    ensures { result ≡ Err (LineFault.Refused (spec.fault_at kind left)) }
+{
+    Err(LineFault::Refused(Fault { kind, left }))
+}
+
+#[tactic(auto, unfolding(crate::specs::Judging::good_range))]
+fn good_range(range: Option<RangeText>) -> Result<Range, LineFault>
+    ensures judged { Judges (λ x. x) result (spec.good_range (maybe_range_text range)) }
+    ensures good { IfOk result IsGood }
+{
+    match range {
+        None => Ok(Range { a: 0, b: 100 }),
+        Some(range) => {
+            if range.a >= range.b {
+                return refusal(ConfigKind::BadRange, range.left);
+            }
+            if range.b > 100 {
+                return refusal(ConfigKind::BadRange, range.left);
+            }
+            Ok(Range {
+                a: range.a as u8,
+                b: range.b as u8,
+            })
+        }
+    }
+}
+
+impl Config {
+    /// The screen of that name or alias.
+    #[tactic(auto, unfolding(crate::specs::Judging::known_screen))]
+    pub(crate) fn known_screen(&self, name: Word<'_>) -> Result<u16, LineFault>
+        ensures judged { Judges (λ x. x) result (spec.known_screen self.now (word_text name.entry)) }
+        ensures known { IfOk result (λ n. n < length self.now.screens) }
+    {
+        if ScreenName::read(name.text).is_none() {
+            return refusal(ConfigKind::BadName, name.left);
+        }
+        match self.find(name.text) {
+            Some(screen) => Ok(screen.0),
+            None => refusal(ConfigKind::UnknownScreen, name.left),
+        }
+    }
+
+    /// A new screen, in whose line `whole` bytes stand.
+    #[tactic(auto, unfolding(crate::specs::Judging::new_screen))]
+    pub(crate) fn new_screen(&mut self, name: Word<'_>, whole: usize) -> Result<(), LineFault>
+        ensures judged { Judges (λ _. self.new) result (spec.new_screen whole self.old (word_text name.entry)) }
+        ensures one_more { OnOk result (length self.new.screens ≡ length self.old.screens + 1) }
+        ensures no_fewer { length self.old.screens ≤ length self.new.screens }
+    {
+        let Some(kept) = ScreenName::read(name.text) else {
+            return refusal(ConfigKind::BadName, name.left);
+        };
+        unless(
+            self.find(name.text).is_none(),
+            ConfigKind::DuplicateScreen,
+            name.left,
+        )?;
+        if self.count() >= 64 {
+            return refusal(ConfigKind::TooMany, whole);
+        }
+        self.add_screen(kept)?;
+        Ok(())
+    }
+
+    /// A new alias of a screen, in whose line `whole` bytes stand.
+    #[tactic(auto, unfolding(crate::specs::Judging::new_alias))]
+    pub(crate) fn new_alias(
+        &mut self,
+        screen: u16,
+        name: Word<'_>,
+        whole: usize,
+    ) -> Result<(), LineFault>
+        requires { screen < length self.old.screens }
+        ensures judged { Judges (λ _. self.new) result (spec.new_alias whole self.old screen (word_text name.entry)) }
+        ensures same_count { length self.new.screens ≡ length self.old.screens }
+    {
+        let Some(kept) = ScreenName::read(name.text) else {
+            return refusal(ConfigKind::BadName, name.left);
+        };
+        unless(
+            self.find(name.text).is_none(),
+            ConfigKind::DuplicateAlias,
+            name.left,
+        )?;
+        if self.alias_count() >= 256 {
+            return refusal(ConfigKind::TooMany, whole);
+        }
+        self.add_alias(kept, screen)?;
+        Ok(())
+    }
+
+    /// A new link from a screen, in whose line `whole` bytes stand.
+    #[tactic(auto, unfolding(crate::specs::Judging::new_link))]
+    pub(crate) fn new_link(
+        &mut self,
+        from: u16,
+        text: LinkText<'_>,
+        whole: usize,
+    ) -> Result<(), LineFault>
+        requires { from < length self.old.screens }
+        ensures judged { Judges (λ _. self.new) result (spec.new_link whole self.old from (link_text text.entry)) }
+        ensures same_count { length self.new.screens ≡ length self.old.screens }
+    {
+        let to = self.known_screen(text.name)?;
+        let range = good_range(text.source)?;
+        let onto = good_range(text.target)?;
+        match self.add_link(from, text.side, range, to, onto) {
+            Ok(()) => Ok(()),
+            Err(LinkFault::BadRange) => unreachable!(),
+            Err(LinkFault::Overlap) => Err(LineFault::Refused(Fault {
+                kind: ConfigKind::Overlap,
+                left: text.left,
+            })),
+            Err(LinkFault::Full) => Err(LineFault::Refused(Fault {
+                kind: ConfigKind::TooMany,
+                left: whole,
+            })),
+            Err(LinkFault::OutOfMemory) => Err(LineFault::OutOfMemory),
+        }
+    }
+}

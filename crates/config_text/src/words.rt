@@ -1,0 +1,130 @@
+//! Options that a line sets.
+
+ghost use Rattle.std.specs.Prelude.{◌≡◌, IfOk, true};
+ghost use Rattle.option_table.specs.Table.{row_of};
+ghost use Rattle.option_table.specs.Values.{suits};
+ghost use Rattle.config_text.specs.Answering.{Judges};
+ghost use Rattle.config_text.specs.Judging as spec;
+ghost use Rattle.config_text.specs.Judging.{new_setting, stands_below_screen, stands_for_all};
+ghost use Rattle.config_text.specs.Seen.{setting_text};
+
+use crate::faults::{ConfigKind, Fault, LineFault};
+use crate::shapes::SettingText;
+use option_table::{OptionName, Scope};
+
+/// An option and the value that a line gives it.
+#[derive(Clone, Copy, Debug)]
+pub(crate) struct Setting {
+    pub option: OptionName,
+    pub value: u32,
+}
+
+/// Nothing, where the condition holds.
+pub(crate) fn unless(holds: bool, kind: ConfigKind, left: usize) -> Result<(), LineFault>
+    ensures { Judges (λ x. x) result (spec.unless holds kind left) }
+{
+    if holds {
+        Ok(())
+    } else {
+        Err(LineFault::Refused(Fault { kind, left }))
+    }
+}
+
+/// What is there, or a fault.
+pub(crate) fn found<T: Drop>(
+    value: Option<T>,
+    kind: ConfigKind,
+    left: usize,
+) -> Result<T, LineFault>
+    ensures { Judges (λ x. x) result (spec.or_fault value kind left) }
+{
+    match value {
+        Some(value) => Ok(value),
+        None => Err(LineFault::Refused(Fault { kind, left })),
+    }
+}
+
+/// A form that can't go on is a bad line there.
+pub(crate) fn formed<T: Drop>(read: Result<T, usize>) -> Result<T, LineFault>
+    ensures { Judges (λ x. x) result (spec.formed read) }
+{
+    match read {
+        Ok(value) => Ok(value),
+        Err(left) => Err(LineFault::Refused(Fault {
+            kind: ConfigKind::BadLine,
+            left,
+        })),
+    }
+}
+
+fn is_below_screen(scope: Scope) -> bool
+    ensures { result ≡ stands_below_screen scope }
+{
+    match scope {
+        Scope::Screen => true,
+        Scope::Global => false,
+        Scope::Both => true,
+    }
+}
+
+fn is_for_all(scope: Scope) -> bool
+    ensures { result ≡ stands_for_all scope }
+{
+    match scope {
+        Scope::Screen => false,
+        Scope::Global => true,
+        Scope::Both => true,
+    }
+}
+
+/// The option of a line below a screen's header.
+#[tactic(auto, unfolding(crate::specs::Judging::new_setting))]
+pub(crate) fn own_setting(text: SettingText<'_>) -> Result<Setting, LineFault>
+    ensures judged { Judges (λ x. x) result (new_setting stands_below_screen (setting_text text.entry)) }
+    ensures suits { IfOk result (λ s. suits (row_of s.option).form s.value ≡ true) }
+{
+    let option = found(
+        OptionName::named(text.key.text),
+        ConfigKind::UnknownOption,
+        text.key.left,
+    )?;
+    let row = option.row();
+    unless(
+        is_below_screen(row.scope),
+        ConfigKind::UnknownOption,
+        text.key.left,
+    )?;
+    let Some(value) = row.form.value(text.value.text) else {
+        return Err(LineFault::Refused(Fault {
+            kind: ConfigKind::BadValue,
+            left: text.value.left,
+        }));
+    };
+    Ok(Setting { option, value })
+}
+
+/// The option of a line among those for all screens.
+#[tactic(auto, unfolding(crate::specs::Judging::new_setting))]
+pub(crate) fn global_setting(text: SettingText<'_>) -> Result<Setting, LineFault>
+    ensures judged { Judges (λ x. x) result (new_setting stands_for_all (setting_text text.entry)) }
+    ensures suits { IfOk result (λ s. suits (row_of s.option).form s.value ≡ true) }
+{
+    let option = found(
+        OptionName::named(text.key.text),
+        ConfigKind::UnknownOption,
+        text.key.left,
+    )?;
+    let row = option.row();
+    unless(
+        is_for_all(row.scope),
+        ConfigKind::UnknownOption,
+        text.key.left,
+    )?;
+    let Some(value) = row.form.value(text.value.text) else {
+        return Err(LineFault::Refused(Fault {
+            kind: ConfigKind::BadValue,
+            left: text.value.left,
+        }));
+    };
+    Ok(Setting { option, value })
+}

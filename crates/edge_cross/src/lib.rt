@@ -1,0 +1,17 @@
+//! What a motion meets at the edge of a screen: which side it passes, corners that block it, and the
+//! gate that it asks before the screens switch.
+//!
+//! It owns edges (`specs/Edges.antt`), corners (`specs/InCorners.antt`) and the gate's answers
+//! (`specs/Gates.antt`). It may know no links and no machine. No call of it takes memory.
+#![tactic(auto)]
+
+mod corner;
+mod edge;
+mod gate;
+#[cfg(test)]
+mod tests;
+
+pub use corner::in_corner;
+pub use edge::{Axis, Edge, leaves};
+pub use gate::{Gate, GateAnswer, Waiting};
+pub use share_base::Corners;

@@ -1,0 +1,12 @@
+pub mod Looking
+pub mod Good
+pub mod Clearing
+pub mod Histories
+pub mod Tables
+pub mod Standing
+pub mod Ranging
+pub mod Releasing
+pub mod WordsApart
+pub mod LineTexts
+pub mod Rows
+pub mod Plain

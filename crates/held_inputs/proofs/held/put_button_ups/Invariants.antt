@@ -1,0 +1,12 @@
+use Rattle.std.proofs.Common.{◌≡◌, ◌+◌, ◌*◌, ◌≤◌, ◌++◌, length, map}
+use Rattle.std.specs.List.{flat_map}
+use Rattle.held_inputs.specs.Line.{line_of}
+use Rattle.held_inputs.specs.Table.{places}
+use Rattle.held_inputs.specs.declared.line.Line.TheVariants.{ButtonUp}
+use Rattle.held_inputs.proofs.held.put_button_ups.Given as goal
+
+abbrev pub invariant-loop-b : goal.invariant-loop-b
+invariant-loop-b l = record {
+  printed : l.lines ≡ l.fn.lines ++ flat_map line_of (map ButtonUp (places l.buttons l.b));
+  bound : length l.lines ≤ length l.fn.lines + 16 * l.b;
+}

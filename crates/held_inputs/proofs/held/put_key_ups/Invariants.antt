@@ -1,0 +1,13 @@
+use Rattle.std.proofs.Common.{◌≡◌, ◌+◌, ◌*◌, ◌≤◌, ◌++◌, length, map, take}
+use Rattle.std.specs.List.{flat_map, AllByRecursion}
+use Rattle.held_inputs.specs.Line.{line_of}
+use Rattle.held_inputs.specs.Ranges.{Fits}
+use Rattle.held_inputs.specs.Down.{up_of}
+use Rattle.held_inputs.proofs.held.put_key_ups.Given as goal
+
+abbrev pub invariant-loop-key : goal.invariant-loop-key
+invariant-loop-key l = record {
+  printed : l.lines ≡ l.fn.lines ++ flat_map line_of (map up_of (take l.key-index l.keys));
+  fits : AllByRecursion Fits (map up_of (take l.key-index l.keys));
+  bound : length l.lines ≤ length l.fn.lines + 19 * l.key-index;
+}

@@ -1,0 +1,146 @@
+//! What is down: keys with their ids, and buttons of the mouse.
+
+ghost use Rattle.std.specs.Prelude.{◌≡◌, ◌↔◌, ◌≤◌, ◌<◌, ◌+◌, ◌*◌, ◌++◌, [], false, length, map, replicate, slice_index_or, slice_set, IsTrue};
+ghost use Rattle.std.specs.List.{flat_map, AllByRecursion};
+ghost use Rattle.held_inputs.specs.Line.{line_of};
+ghost use Rattle.held_inputs.specs.Ranges.{Fits};
+ghost use Rattle.held_inputs.specs.Down.{up_of};
+ghost use Rattle.held_inputs.specs.Table.{found, inserted, removed, places};
+ghost use Rattle.held_inputs.specs.Stands.{AllUp};
+ghost use Rattle.held_inputs.specs.declared.line.Line.TheVariants.{ButtonUp};
+
+use crate::keys::{HeldKey, HeldKeys, MOST_KEYS};
+use crate::line::Line;
+use crate::printing::put_line;
+use share_base::Lines;
+
+/// At most 512 keys and 256 mouse buttons that are down, in tables of fixed size. No call takes
+/// memory.
+#[derive(Drop)]
+pub struct Held {
+    keys: HeldKeys,
+    buttons: [bool; 256],
+}
+
+impl Held {
+    /// Nothing is down.
+    pub fn new() -> Held
+        ensures keys { result.keys ≡ [] }
+        ensures buttons { result.buttons ≡ replicate 256 false }
+    {
+        Held {
+            keys: HeldKeys::new(),
+            buttons: [false; 256],
+        }
+    }
+
+    /// The id with which the key at a button went down. `None` comes exactly where it is up.
+    pub fn id(&self, button: u16) -> Option<u16>
+        ensures { result ≡ found self.now.keys button }
+    {
+        self.keys.id(button)
+    }
+
+    /// Whether there is no room for another key.
+    pub fn is_full(&self) -> bool
+        ensures { IsTrue result ↔ (512 ≤ length self.now.keys) }
+    {
+        self.keys.as_slice().len() >= MOST_KEYS
+    }
+
+    /// A key that is up goes down. There has to be room.
+    pub fn press(&mut self, button: u16, id: u16)
+        requires { length self.old.keys < 512 }
+        ensures keys { self.new.keys ≡ inserted self.old.keys button id }
+        ensures buttons { self.new.buttons ≡ self.old.buttons }
+    {
+        self.keys.insert(button, id);
+    }
+
+    /// The key at a button goes up.
+    pub fn lift(&mut self, button: u16)
+        ensures keys { self.new.keys ≡ removed self.old.keys button }
+        ensures buttons { self.new.buttons ≡ self.old.buttons }
+    {
+        self.keys.remove(button);
+    }
+
+    /// Whether a mouse button is down.
+    pub fn is_button_down(&self, b: u8) -> bool
+        ensures { result ≡ slice_index_or self.now.buttons b false }
+    {
+        self.buttons[b as usize]
+    }
+
+    /// A mouse button goes down, or up.
+    pub fn set_button(&mut self, b: u8, down: bool)
+        ensures keys { self.new.keys ≡ self.old.keys }
+        ensures buttons { self.new.buttons ≡ slice_set self.old.buttons b down }
+        ensures known { b < length self.old.buttons }
+    {
+        self.buttons[b as usize] = down;
+    }
+
+    /// Whether nothing is down.
+    pub fn is_clear(&self) -> bool
+        ensures { IsTrue result ↔ AllUp self.now }
+    {
+        for down in &self.buttons {
+            if *down {
+                return false;
+            }
+        }
+        self.keys.as_slice().is_empty()
+    }
+
+    /// All that is down goes up: the keys by rising button, then the mouse buttons by rising number.
+    pub fn release(&mut self) -> Lines
+        ensures printed { result ≡ flat_map line_of (map up_of self.old.keys) ++ flat_map line_of (map ButtonUp (places self.old.buttons (length self.old.buttons))) }
+        ensures fits { AllByRecursion Fits (map up_of self.old.keys) }
+        ensures few { length self.old.buttons ≤ 256 }
+        ensures keys { self.new.keys ≡ [] }
+        ensures buttons { self.new.buttons ≡ replicate 256 false }
+        ensures bound { length result ≤ 13824 }
+    {
+        let mut lines = Lines::new();
+        put_key_ups(&mut lines, self.keys.as_slice());
+        put_button_ups(&mut lines, &self.buttons);
+        self.keys.clear();
+        self.buttons = [false; 256];
+        lines
+    }
+}
+
+/// The line by which a key goes up.
+fn up_of(key: HeldKey) -> Line
+    ensures is { result ≡ up_of key }
+    ensures fits { Fits result }
+{
+    let HeldKey { button, id } = key;
+    Line::KeyUp { id, button }
+}
+
+fn put_key_ups(lines: &mut Lines, keys: &[HeldKey])
+    requires { length lines.old + 19 * length keys.now ≤ 16384 }
+    ensures printed { lines.new ≡ lines.old ++ flat_map line_of (map up_of keys.now) }
+    ensures fits { AllByRecursion Fits (map up_of keys.now) }
+    ensures bound { length lines.new ≤ length lines.old + 19 * length keys.now }
+{
+    for key in keys {
+        put_line(lines, up_of(*key));
+    }
+}
+
+#[tactic(auto, unfolding(crate::specs::Table::places))]
+fn put_button_ups(lines: &mut Lines, buttons: &[bool])
+    requires few { length buttons.now ≤ 256 }
+    requires room { length lines.old + 16 * length buttons.now ≤ 16384 }
+    ensures printed { lines.new ≡ lines.old ++ flat_map line_of (map ButtonUp (places buttons.now (length buttons.now))) }
+    ensures bound { length lines.new ≤ length lines.old + 16 * length buttons.now }
+{
+    for (b, down) in buttons.iter().enumerate() {
+        if *down {
+            put_line(lines, Line::ButtonUp { b: b as u8 });
+        }
+    }
+}

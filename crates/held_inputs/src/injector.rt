@@ -1,0 +1,228 @@
+//! What a message does to a screen.
+
+ghost use Rattle.std.specs.Prelude.{◌≡◌, ◌↔◌, ◌≤◌, ℕ, [], IsTrue, IfSome, length};
+ghost use Rattle.std.specs.List.{flat_map};
+ghost use Rattle.std.specs.Option.{option_to_list, ForSome};
+ghost use Rattle.message_codec.specs.declared.messages.Msg.TheVariants as message;
+ghost use Rattle.held_inputs.specs.Line.{line_of, IsShort};
+ghost use Rattle.held_inputs.specs.Ranges.{Fits};
+ghost use Rattle.held_inputs.specs.Balanced.{NothingDown};
+ghost use Rattle.held_inputs.specs.Screen.{Screen, Applies, SetsOption, ResetsOptions, ReleasesAll, after, meant_id, meant_mask, saver_line};
+ghost use Rattle.held_inputs.specs.Stands.{Stands, StandsFor, Tells, Prints};
+
+use crate::held::Held;
+use crate::line::Line;
+use crate::printing::put_line;
+use message_codec::Msg;
+use modifier_map::ModMap;
+use share_base::{KeyId, Lines, Mask};
+
+/// Turns messages into the lines that a screen prints. It keeps what is down there, and the map of
+/// modifiers. No call takes memory.
+#[derive(Drop)]
+pub struct Injector {
+    held: Held,
+    mods: ModMap,
+}
+
+impl Injector {
+    /// Nothing is down, and modifiers are translated by `map`.
+    pub fn new(map: ModMap) -> Injector
+        ensures { StandsFor map result [] }
+    {
+        Injector {
+            held: Held::new(),
+            mods: map,
+        }
+    }
+
+    /// Changes the map as `ModMap::set` does. What is down stays down, with the id of its down.
+    pub fn set_option(&mut self, code: u32, value: u32)
+        ensures { (s : Screen) → Stands self.old s → Stands self.new (after s (SetsOption code value)) }
+    {
+        self.mods.set(code, value);
+    }
+
+    /// From now on each modifier is itself. What is down stays down, with the id of its down.
+    pub fn reset_options(&mut self)
+        ensures { (s : Screen) → Stands self.old s → Stands self.new (after s ResetsOptions) }
+    {
+        self.mods = ModMap::new();
+    }
+
+    /// The lines of a message. Those of options and clipboards give none, since the caller prints
+    /// their lines and calls `set_option` and `reset_options`; so do those for which none is printed.
+    /// No answer is longer than the releases with `leave` after them.
+    pub fn apply(&mut self, msg: &Msg) -> Lines
+        ensures prints { Prints self.old self.new (Applies msg.now) result }
+        ensures bound { length result ≤ 13830 }
+    {
+        match msg {
+            Msg::Enter { x, y, seq, mask } => one(self.enter(*x, *y, *seq, *mask)),
+            Msg::Leave => self.leave(),
+            Msg::KeyDown { id, mask, button } => one(self.press(*id, *mask, *button)),
+            Msg::KeyRepeat {
+                id: _,
+                mask,
+                count,
+                button,
+            } => one(self.repeat(*mask, *count, *button)),
+            Msg::KeyUp {
+                id: _,
+                mask: _,
+                button,
+            } => one(self.lift(*button)),
+            Msg::ButtonDown { b } => one(self.push(*b)),
+            Msg::ButtonUp { b } => one(self.let_go(*b)),
+            Msg::MoveTo { x, y } => one(Some(Line::MoveTo { x: *x, y: *y })),
+            Msg::MoveBy { dx, dy } => one(Some(Line::MoveBy { dx: *dx, dy: *dy })),
+            Msg::Wheel { dx, dy } => one(Some(Line::Wheel { dx: *dx, dy: *dy })),
+            Msg::Saver { on } => one(Some(saver(*on))),
+            _ => Lines::new(),
+        }
+    }
+
+    /// The ups of all that is down: the keys by rising button, then the mouse buttons by rising
+    /// number. After it nothing is down. The bound is 512 keys at 19 bytes and 256 mouse buttons at 16.
+    pub fn release_all(&mut self) -> Lines
+        ensures prints { Prints self.old self.new ReleasesAll result }
+        ensures bound { length result ≤ 13824 }
+    {
+        self.held.release()
+    }
+
+    /// Whether nothing is down.
+    pub fn is_clear(&self) -> bool
+        ensures { (s : Screen) → Stands self.now s → IsTrue result ↔ NothingDown s.lines }
+    {
+        self.held.is_clear()
+    }
+
+    fn enter(&mut self, x: i16, y: i16, seq: u32, mask: u16) -> Option<Line>
+        ensures tells { Tells self.old self.new (Applies (message.Enter x y seq mask)) (option_to_list result) }
+        ensures short { IfSome result IsShort }
+        ensures fits { IfSome result Fits }
+    {
+        let mask = self.meant_mask(mask);
+        Some(Line::Enter { x, y, seq, mask })
+    }
+
+    fn leave(&mut self) -> Lines
+        ensures prints { Prints self.old self.new (Applies message.Leave) result }
+        ensures bound { length result ≤ 13830 }
+    {
+        let mut lines = self.release_all();
+        put_line(&mut lines, Line::Leave);
+        lines
+    }
+
+    fn press(&mut self, id: u16, mask: u16, button: u16) -> Option<Line>
+        ensures tells { Tells self.old self.new (Applies (message.KeyDown id mask button)) (option_to_list result) }
+        ensures short { IfSome result IsShort }
+        ensures fits { IfSome result Fits }
+    {
+        let mask = self.meant_mask(mask);
+        if let Some(id) = self.held.id(button) {
+            return Some(Line::KeyRepeat {
+                id,
+                count: 1,
+                button,
+                mask,
+            });
+        }
+        if self.held.is_full() {
+            return None;
+        }
+        let id = self.meant_id(id)?;
+        self.held.press(button, id);
+        Some(Line::KeyDown { id, button, mask })
+    }
+
+    fn repeat(&mut self, mask: u16, count: u16, button: u16) -> Option<Line>
+        ensures tells { (id : ℕ) → Tells self.old self.new (Applies (message.KeyRepeat id mask count button)) (option_to_list result) }
+        ensures short { IfSome result IsShort }
+        ensures fits { IfSome result Fits }
+    {
+        let mask = self.meant_mask(mask);
+        let id = self.held.id(button)?;
+        Some(Line::KeyRepeat {
+            id,
+            count,
+            button,
+            mask,
+        })
+    }
+
+    fn lift(&mut self, button: u16) -> Option<Line>
+        ensures tells { (id mask : ℕ) → Tells self.old self.new (Applies (message.KeyUp id mask button)) (option_to_list result) }
+        ensures short { IfSome result IsShort }
+        ensures fits { IfSome result Fits }
+    {
+        let id = self.held.id(button)?;
+        self.held.lift(button);
+        Some(Line::KeyUp { id, button })
+    }
+
+    fn push(&mut self, b: u8) -> Option<Line>
+        ensures tells { Tells self.old self.new (Applies (message.ButtonDown b)) (option_to_list result) }
+        ensures short { IfSome result IsShort }
+        ensures fits { IfSome result Fits }
+    {
+        if self.held.is_button_down(b) {
+            return None;
+        }
+        self.held.set_button(b, true);
+        Some(Line::ButtonDown { b })
+    }
+
+    fn let_go(&mut self, b: u8) -> Option<Line>
+        ensures tells { Tells self.old self.new (Applies (message.ButtonUp b)) (option_to_list result) }
+        ensures short { IfSome result IsShort }
+        ensures fits { IfSome result Fits }
+    {
+        if !self.held.is_button_down(b) {
+            return None;
+        }
+        self.held.set_button(b, false);
+        Some(Line::ButtonUp { b })
+    }
+
+    /// What an id is injected as, if at all.
+    #[tactic(auto, unfolding(crate::specs::Screen::meant_id))]
+    fn meant_id(&self, id: u16) -> Option<u16>
+        ensures { result ≡ meant_id self.now.mods id }
+    {
+        self.mods.key(KeyId(id)).map(|key| key.0)
+    }
+
+    /// What a mask is injected as.
+    #[tactic(auto, unfolding(crate::specs::Screen::meant_mask))]
+    fn meant_mask(&self, mask: u16) -> u16
+        ensures { result ≡ meant_mask self.now.mods mask }
+    {
+        self.mods.mask(Mask(mask)).0
+    }
+}
+
+fn saver(on: u8) -> Line
+    ensures { result ≡ saver_line on }
+{
+    if on == 0 {
+        Line::SaverOff
+    } else {
+        Line::SaverOn
+    }
+}
+
+/// At most one line.
+fn one(line: Option<Line>) -> Lines
+    requires { ForSome line IsShort }
+    ensures printed { result ≡ flat_map line_of (option_to_list line) }
+    ensures bound { length result ≤ 37 }
+{
+    let mut lines = Lines::new();
+    if let Some(line) = line {
+        put_line(&mut lines, line);
+    }
+    lines
+}

@@ -1,0 +1,149 @@
+//! Lines as text.
+
+ghost use Rattle.std.specs.Prelude.{◌≡◌, ◌≤◌, ◌<◌, ◌+◌, ◌*◌, ◌++◌, [], ◌∷◌, codes, length, map};
+ghost use Rattle.std.specs.Int.{w32, to_be_bytes};
+ghost use Rattle.std.specs.Fmt.{decimal, signed_decimal};
+ghost use Rattle.held_inputs.specs.Line.{line_of, room_of, text};
+ghost use Rattle.message_codec.specs.Showing.{hex_digit, hex, after_blank};
+
+use crate::line::Line;
+use share_base::{Lines, put_i16, put_u16, put_u32};
+
+/// Prints a line and its newline at the end of `lines`. They have to fit: `room_of` has, for each
+/// kind of line, the most bytes that it takes.
+pub fn put_line(lines: &mut Lines, line: Line)
+    requires { length lines.old + room_of line ≤ 16384 }
+    ensures printed { lines.new ≡ lines.old ++ line_of line }
+    ensures bound { length lines.new ≤ length lines.old + room_of line }
+{
+    match line {
+        Line::Enter { x, y, seq, mask } => put_enter(lines, x, y, seq, mask),
+        Line::Leave => lines.extend(b"leave\n"),
+        Line::KeyDown { id, button, mask } => put_numbers(lines, b"key down", &[id, button, mask]),
+        Line::KeyRepeat {
+            id,
+            count,
+            button,
+            mask,
+        } => put_numbers(lines, b"key rep", &[id, count, button, mask]),
+        Line::KeyUp { id, button } => put_numbers(lines, b"key up", &[id, button]),
+        Line::ButtonDown { b } => put_numbers(lines, b"button down", &[b as u16]),
+        Line::ButtonUp { b } => put_numbers(lines, b"button up", &[b as u16]),
+        Line::MoveTo { x, y } => put_pair(lines, b"move", x, y),
+        Line::MoveBy { dx, dy } => put_pair(lines, b"moveby", dx, dy),
+        Line::Wheel { dx, dy } => put_pair(lines, b"wheel", dx, dy),
+        Line::SaverOn => lines.extend(b"saver on\n"),
+        Line::SaverOff => lines.extend(b"saver off\n"),
+        Line::ResetOptions => lines.extend(b"reset options\n"),
+        Line::SetOption { code, value } => put_option(lines, code, value),
+        Line::Grab { clip } => put_numbers(lines, b"grab", &[clip.number() as u16]),
+        Line::Clip { clip, bytes } => put_clip(lines, clip.number(), bytes.as_slice()),
+    }
+}
+
+fn put_enter(lines: &mut Lines, x: i16, y: i16, seq: u32, mask: u16)
+    requires { length lines.old + 37 ≤ 16384 }
+    ensures printed { lines.new ≡ lines.old ++ text (codes "enter") (signed_decimal x ∷ signed_decimal y ∷ decimal seq ∷ decimal mask ∷ []) }
+    ensures bound { length lines.new ≤ length lines.old + 37 }
+{
+    lines.extend(b"enter");
+    put_signed_field(lines, x);
+    put_signed_field(lines, y);
+    lines.extend(b" ");
+    put_u32(lines, seq);
+    put_field(lines, mask);
+    lines.extend(b"\n");
+}
+
+/// Words, and then two signed numbers.
+fn put_pair(lines: &mut Lines, words: &[u8], first: i16, second: i16)
+    requires { length lines.old + length words.now + 15 ≤ 16384 }
+    ensures printed { lines.new ≡ lines.old ++ text words.now (signed_decimal first ∷ signed_decimal second ∷ []) }
+    ensures bound { length lines.new ≤ length lines.old + length words.now + 15 }
+{
+    lines.extend(words);
+    put_signed_field(lines, first);
+    put_signed_field(lines, second);
+    lines.extend(b"\n");
+}
+
+/// Words, and then numbers of two bytes.
+fn put_numbers(lines: &mut Lines, words: &[u8], numbers: &[u16])
+    requires { length lines.old + (length words.now + 6 * length numbers.now + 1) ≤ 16384 }
+    ensures printed { lines.new ≡ lines.old ++ text words.now (map decimal numbers.now) }
+    ensures bound { length lines.new ≤ length lines.old + (length words.now + 6 * length numbers.now + 1) }
+{
+    lines.extend(words);
+    for number in numbers {
+        put_field(lines, *number);
+    }
+    lines.extend(b"\n");
+}
+
+fn put_option(lines: &mut Lines, code: u32, value: u32)
+    requires { length lines.old + 28 ≤ 16384 }
+    ensures printed { lines.new ≡ lines.old ++ text (codes "option") (hex (to_be_bytes w32 code) ∷ decimal value ∷ []) }
+    ensures bound { length lines.new ≤ length lines.old + 28 }
+{
+    lines.extend(b"option ");
+    put_hex(lines, &code.to_be_bytes());
+    lines.extend(b" ");
+    put_u32(lines, value);
+    lines.extend(b"\n");
+}
+
+fn put_clip(lines: &mut Lines, clip: u8, bytes: &[u8])
+    requires { length lines.old + (2 * length bytes.now + 13) ≤ 16384 }
+    ensures printed { lines.new ≡ lines.old ++ text (codes "clip") (decimal clip ∷ hex bytes.now ∷ []) }
+    ensures bound { length lines.new ≤ length lines.old + (2 * length bytes.now + 13) }
+{
+    lines.extend(b"clip");
+    put_field(lines, clip as u16);
+    lines.extend(b" ");
+    put_hex(lines, bytes);
+    lines.extend(b"\n");
+}
+
+fn put_field(lines: &mut Lines, number: u16)
+    requires { length lines.old + 6 ≤ 16384 }
+    ensures printed { lines.new ≡ lines.old ++ after_blank (decimal number) }
+    ensures bound { length lines.new ≤ length lines.old + 6 }
+{
+    lines.extend(b" ");
+    put_u16(lines, number);
+}
+
+fn put_signed_field(lines: &mut Lines, number: i16)
+    requires { length lines.old + 7 ≤ 16384 }
+    ensures printed { lines.new ≡ lines.old ++ after_blank (signed_decimal number) }
+    ensures bound { length lines.new ≤ length lines.old + 7 }
+{
+    lines.extend(b" ");
+    put_i16(lines, number);
+}
+
+/// Bytes as pairs of digits, or `-` for none.
+fn put_hex(lines: &mut Lines, bytes: &[u8])
+    requires { length lines.old + (2 * length bytes.now + 1) ≤ 16384 }
+    ensures printed { lines.new ≡ lines.old ++ hex bytes.now }
+    ensures bound { length lines.new ≤ length lines.old + (2 * length bytes.now + 1) }
+{
+    if bytes.is_empty() {
+        lines.extend(b"-");
+        return;
+    }
+    for byte in bytes {
+        lines.extend(&[hex_digit(*byte / 16), hex_digit(*byte % 16)]);
+    }
+}
+
+fn hex_digit(number: u8) -> u8
+    requires { number < 16 }
+    ensures { result ≡ hex_digit number }
+{
+    if number < 10 {
+        b'0' + number
+    } else {
+        b'a' + (number - 10)
+    }
+}

@@ -1,0 +1,4 @@
+pub mod CornerSets
+pub mod NoneSet
+pub mod RowPlaces
+pub mod WordPlaces

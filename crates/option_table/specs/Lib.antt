@@ -1,0 +1,9 @@
+pub mod Corners
+pub mod Places
+pub mod Printed
+pub mod Seen
+pub mod SeenCorners
+pub mod Settings
+pub mod Table
+pub mod Values
+pub mod Wire

@@ -1,0 +1,5 @@
+pub mod Ranges
+pub mod Adding
+pub mod Apart
+pub mod Walks
+pub mod Places

@@ -1,0 +1,20 @@
+//! Laws of walks and places. The calls do nothing: their contracts are the laws.
+
+ghost use Rattle.std.specs.Prelude.{◌≡◌, ◌<◌, ◌≤◌, List, ℕ};
+ghost use Rattle.share_base.specs.declared.shape.Side.{Side as OneSide};
+ghost use Rattle.screen_links.specs.declared.link.Link.{Link as OneLink};
+ghost use Rattle.screen_links.specs.declared.link.Landing.{Landing as Place};
+ghost use Rattle.screen_links.specs.Apart.{AreApart};
+ghost use Rattle.screen_links.specs.Places.{place_of, pixel_of};
+ghost use Rattle.screen_links.specs.Walks.{Across};
+
+/// A walk over links that are apart has at most one landing.
+pub fn one_landing()
+    ensures { (links : List OneLink) (joined : ℕ) (side : OneSide) (at one other : Place) → AreApart links
+        → Across links joined side at one → Across links joined side at other → one ≡ other }
+{}
+
+/// The pixel of a pixel's place is that pixel.
+pub fn pixel_again()
+    ensures { (p n : ℕ) → p < n → n ≤ 32767 → pixel_of (place_of p n) n ≡ p }
+{}

@@ -1,0 +1,11 @@
+use Rattle.std.proofs.Common.{◌==◌, sym, refl, rules}
+use Rattle.std.proofs.lemmas.Iterator.Search.{all_from_yields_List}
+use Rattle.std.proofs.lemmas.Iterator.Splits.{YieldsList-from_slice_split}
+use Rattle.share_base.specs.Names as spec
+use Rattle.share_base.proofs.screen_name.all_parts.Goals as goal
+
+pub returns : goal.returns
+returns c =
+    all_from_yields_List spec.is_part _ _ _ c.all.ensures.ran
+    (YieldsList-from_slice_split _ (λ b. b == 46) c.args.bytes.now c.split.ensures.rest c.split.ensures.done c.split.ensures.closure (λ x b q k. search rules))
+    (λ x b q k. search rules)

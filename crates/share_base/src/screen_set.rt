@@ -1,0 +1,56 @@
+//! Sets of screens.
+
+ghost use Rattle.std.specs.Prelude.{◌≡◌, ◌<◌, ◌==◌, ◌||◌, ◌&&◌, not, false, ℕ};
+ghost use Rattle.share_base.specs.Screens.{has};
+
+use crate::numbers::ScreenNo;
+use std::marker::Model;
+
+/// A set of screens with numbers below 64. Contracts ask it by `has`. No call of it takes memory.
+#[derive(Clone, Copy, Debug, PartialEq, Eq)]
+pub struct ScreenSet {
+    bits: u64,
+}
+
+impl Model for ScreenSet {
+    ghost use Rattle.std.specs.Prelude.{ℕ};
+
+    ghost Value = { ℕ };
+
+    ghost view = { λ s. s.bits };
+
+    ghost inverse = { λ n. record { bits = n } };
+}
+
+impl ScreenSet {
+    /// No screen.
+    pub fn new() -> ScreenSet
+        ensures { (k : ℕ) → has result k ≡ false }
+    {
+        ScreenSet { bits: 0 }
+    }
+
+    /// Puts a screen in. Its number is below 64.
+    pub fn insert(&mut self, no: ScreenNo)
+        requires { no.0 < 64 }
+        ensures { (k : ℕ) → has self.new k ≡ (has self.old k || k == no.0) }
+    {
+        self.bits |= 1 << no.0;
+    }
+
+    /// Takes a screen out. Its number is below 64.
+    pub fn remove(&mut self, no: ScreenNo)
+        requires { no.0 < 64 }
+        ensures { (k : ℕ) → has self.new k ≡ (has self.old k && not (k == no.0)) }
+    {
+        self.bits &= !(1 << no.0);
+    }
+
+    /// Whether a screen is in it. Its number is below 64.
+    pub fn has(&self, no: ScreenNo) -> bool
+        requires { no.0 < 64 }
+        ensures { result ≡ has self.now no.0 }
+    {
+        (self.bits >> no.0) & 1 == 1
+    }
+}

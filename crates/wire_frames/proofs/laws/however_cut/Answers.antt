@@ -1,0 +1,5 @@
+use Rattle.wire_frames.proofs.OneFraming as law
+use Rattle.wire_frames.proofs.laws.however_cut.Goals as goal
+
+pub returns : goal.returns
+returns c = law.however_cut
