@@ -141,8 +141,8 @@ reads_write_fault w lines shown total left l' taken taken' new ended messages re
   rest = rest;
   begins = s.begins;
   ending = write_fault refl;
-  writes = subst (λ (t : List ℕ). TakesFront (t ++ w.releases messages) taken new) p.lines_are
-      (front_after written lines (w.releases messages) taken taken' new s.taken_is (subst (λ (x : List ℕ). TakesFront x taken' new) shown-is front));
+  writes = subst (λ (t : List ℕ). TakesFront (t ++ w.last messages) taken new) p.lines_are
+      (front_after written lines (w.last messages) taken taken' new s.taken_is (subst (λ (x : List ℕ). TakesFront x taken' new) shown-is front));
 }
 
 -- all was written before the end; then come the last lines
@@ -160,7 +160,7 @@ reads_finished w end result total left l l' taken taken' new ended messages rest
         begins = s.begins;
         ending = subst (λ (e : Status). EndsAt w e s.read l' ended (length (frames_of messages)) rest) (sym whole.0) (ends s.read consumed s.total_is);
         writes = subst (λ (e : Status). Writes w e messages taken new) (sym whole.0) (writes_all end fine
-            (whole.1 ∙ ap (λ (o : Option (List ℕ)). after o (w.releases messages)) s.taken_is ∙ after-after taken written (w.releases messages) ∙ ap (λ (t : List ℕ). after taken (t ++ w.releases messages)) all));
+            (whole.1 ∙ ap (λ (o : Option (List ℕ)). after o (w.last messages)) s.taken_is ∙ after-after taken written (w.last messages) ∙ ap (λ (t : List ℕ). after taken (t ++ w.last messages)) all));
       }
       | inr failed ↦ record {
         read = s.read;
@@ -170,8 +170,8 @@ reads_finished w end result total left l l' taken taken' new ended messages rest
         begins = s.begins;
         ending = write_fault failed.0;
         writes = subst (λ (e : Status). Writes w e messages taken new) (sym failed.0)
-            (subst (λ (t : List ℕ). TakesFront t taken new) (append-nil (written ++ w.releases messages) ∙ ap (λ (t : List ℕ). t ++ w.releases messages) all)
-            (front_after written (w.releases messages) [] taken taken' new s.taken_is failed.1));
+            (subst (λ (t : List ℕ). TakesFront t taken new) (append-nil (written ++ w.last messages) ∙ ap (λ (t : List ℕ). t ++ w.last messages) all)
+            (front_after written (w.last messages) [] taken taken' new s.taken_is failed.1));
       }
     ]
   where
@@ -182,6 +182,9 @@ reads_finished w end result total left l l' taken taken' new ended messages rest
     writes_all (status.Lost cause) other is = is
     writes_all status.InputTooLong other is = is
     writes_all status.Usage other is = is
+    writes_all status.LinkFault other is = is
+    writes_all status.TurnsSpent other is = is
+    writes_all (status.Refused which) other is = is
     writes_all status.ReadFault other is = is
     writes_all status.WriteFault other is = absurd (other refl)
     writes_all status.OutOfMemory other is = is
@@ -193,6 +196,9 @@ source_or (status.NotYet place) source source' fine c = inl c
 source_or (status.Lost cause) source source' fine c = inl c
 source_or status.InputTooLong source source' fine c = inl c
 source_or status.Usage source source' fine c = inl c
+source_or status.LinkFault source source' fine c = inl c
+source_or status.TurnsSpent source source' fine c = inl c
+source_or (status.Refused which) source source' fine c = inl c
 source_or status.ReadFault source source' fine c = inr c
 source_or status.WriteFault source source' fine c = absurd (fine refl)
 source_or status.OutOfMemory source source' fine c = inl c
@@ -204,6 +210,9 @@ sink_same (status.NotYet place) sink sink' fine same = same
 sink_same (status.Lost cause) sink sink' fine same = same
 sink_same status.InputTooLong sink sink' fine same = same
 sink_same status.Usage sink sink' fine same = same
+sink_same status.LinkFault sink sink' fine same = same
+sink_same status.TurnsSpent sink sink' fine same = same
+sink_same (status.Refused which) sink sink' fine same = same
 sink_same status.ReadFault sink sink' fine same = same
 sink_same status.WriteFault sink sink' fine same = absurd (fine refl)
 sink_same status.OutOfMemory sink sink' fine same = same
@@ -236,6 +245,9 @@ fine_by_bytes (status.NotYet place) by same = absurd cc
 fine_by_bytes (status.Lost cause) by same = absurd cc
 fine_by_bytes status.InputTooLong by same = by
 fine_by_bytes status.Usage by same = by
+fine_by_bytes status.LinkFault by same = by
+fine_by_bytes status.TurnsSpent by same = by
+fine_by_bytes (status.Refused which) by same = absurd cc
 fine_by_bytes status.ReadFault by same = by
 fine_by_bytes status.OutOfMemory by same = by
 
@@ -247,6 +259,9 @@ source_by_bytes (status.NotYet place) source source' by same = same
 source_by_bytes (status.Lost cause) source source' by same = same
 source_by_bytes status.InputTooLong source source' by same = absurd by
 source_by_bytes status.Usage source source' by same = absurd by
+source_by_bytes status.LinkFault source source' by same = absurd by
+source_by_bytes status.TurnsSpent source source' by same = absurd by
+source_by_bytes (status.Refused which) source source' by same = same
 source_by_bytes status.ReadFault source source' by same = absurd by
 source_by_bytes status.OutOfMemory source source' by same = absurd by
 

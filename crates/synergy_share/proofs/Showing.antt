@@ -67,6 +67,17 @@ gone_fed core g total messages rest piece taken none k g-is total-is =
       going = subst (λ (ms : List Msg). Going core.from g core.lines core.place total ms (rest ++ piece) taken) (sym (append-nil messages)) going;
     }
 
+-- it was not, and nothing else changed
+pub gone_unfed : (core : ShowCore) (messages : List Msg) (rest piece taken : List ℕ) → Shown core messages rest taken → (f : Further (showing core.from) rest piece) × Printed (showing core.from) core.lines (messages ++ f.more) taken
+gone_unfed core messages rest piece taken k = (
+  record { more = []; rest' = rest ++ piece; begins = begins_none (showing core.from) (rest ++ piece) },
+  subst (λ (ms : List Msg). Printed (showing core.from) core.lines ms taken) (sym (append-nil messages)) k.keeps.printed,
+)
+
+-- what was shown so far stands
+pub printed_of : (from : End) (framer : FramerParts) (lines : List ℕ) (place total : ℕ) (messages : List Msg) (rest piece taken : List ℕ) → Gone from framer lines place total messages rest piece taken → (f : Further (showing from) rest piece) × Printed (showing from) lines (messages ++ f.more) taken
+printed_of from framer lines place total messages rest piece taken w = (w.further, w.going.printed)
+
 -- a message was shown
 going_one : (from : End) (f g : FramerParts) (lines lines' : List ℕ) (place end total : ℕ) (messages : List Msg) (rest taken : List ℕ) → Going from f lines place total messages rest taken → (s : ShowsOne from end f g lines lines')
     → Going from g lines' end total (messages ++ s.message ∷ []) g.rest taken
@@ -95,10 +106,6 @@ gone_one from f g lines lines' place end total messages rest piece taken w s =
 pub gone_same : (from : End) (f g : FramerParts) (lines lines' : List ℕ) (place total : ℕ) (messages : List Msg) (rest piece taken : List ℕ) → Gone from f lines place total messages rest piece taken → g ≡ f → lines' ≡ lines → Gone from g lines' place total messages rest piece taken
 gone_same from f g lines lines' place total messages rest piece taken w same kept =
     subst (λ (x : FramerParts). Gone from x lines' place total messages rest piece taken) (sym same) (subst (λ (x : List ℕ). Gone from f x place total messages rest piece taken) (sym kept) w)
-
-pub record FedTo (core : ShowCore) (from : End) (messages : List Msg) (rest piece taken : List ℕ) : Type 0 where
-  pub further : Further (showing from) rest piece
-  pub shown : Shown core (messages ++ further.more) further.rest' taken
 
 -- no whole frame is left
 pub shown_more : (core : ShowCore) (messages : List Msg) (rest piece taken : List ℕ) → Gone core.from core.framer core.lines core.place core.total messages rest piece taken → IsPartial body_limit core.framer.rest → core.done ≡ None

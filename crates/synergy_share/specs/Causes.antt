@@ -15,6 +15,9 @@ SinkCounts status.InputTooLong old new = new ≡ old
 SinkCounts status.ReadFault old new = new ≡ old
 SinkCounts status.OutOfMemory old new = new ≡ old
 SinkCounts status.Usage old new = new ≡ old
+SinkCounts status.LinkFault old new = new ≡ old
+SinkCounts status.TurnsSpent old new = new ≡ old
+SinkCounts (status.Refused which) old new = new ≡ old
 
 -- the count of the input's faults rose at a read fault, and stayed at every other status; where the last lines could not be written after a read fault, the write fault is answered
 abbrev pub SourceCounts : Status → ℕ → ℕ → Type 0
@@ -27,6 +30,9 @@ SourceCounts (status.Lost cause) old new = new ≡ old
 SourceCounts status.InputTooLong old new = new ≡ old
 SourceCounts status.OutOfMemory old new = new ≡ old
 SourceCounts status.Usage old new = new ≡ old
+SourceCounts status.LinkFault old new = new ≡ old
+SourceCounts status.TurnsSpent old new = new ≡ old
+SourceCounts (status.Refused which) old new = new ≡ old
 
 abbrev pub Causes : Status → ℕ → ℕ → ℕ → ℕ → Type 0
 Causes end source source' sink sink' = SourceCounts end source source' × SinkCounts end sink sink'

@@ -1,5 +1,9 @@
 -- What a command writes of the bytes that it reads, how it ends, and where it stops to read.
 use Rattle.std.specs.Prelude.{◌≡◌, ◌≢◌, ℕ, ◌<◌, ◌≤◌, Bool, List, [], ◌++◌, length, take, Option}
+use Rattle.std.specs.List.{flat_map}
+use Rattle.held_inputs.specs.declared.line.Line.{Line}
+use Rattle.held_inputs.specs.Line.{line_of}
+use Rattle.held_inputs.specs.Balanced.{Balanced, ClearAtLeaves}
 use Rattle.share_base.specs.Told.{before, after, NoneLeft, IsSet, NotSet}
 use Rattle.share_base.specs.Writing.{TakesFront}
 use Rattle.wire_frames.specs.Framing.{IsPartial}
@@ -31,7 +35,7 @@ pub data EndsAt (w : Way) (end : Status) (read : List ℕ) (left : Option (List 
 
 -- all the lines of the messages, and those at the end
 abbrev pub all_lines : Way → List Msg → List ℕ
-all_lines w messages = w.text messages ++ w.releases messages
+all_lines w messages = w.text messages ++ w.last messages
 
 -- what the sink took: all of the lines, or a front of them where it failed
 abbrev pub Writes : Way → Status → List Msg → Option (List ℕ) → Option (List ℕ) → Type 0
@@ -58,3 +62,15 @@ pub record Stops (w : Way) (left left_before : Option (List ℕ)) (ended_before 
   pub rest : List ℕ
   pub begins : Begins w messages earlier rest
   pub partial : IsPartial body_limit rest
+
+-- what was written are lines in which every key and every mouse button went up, one up for each down, and nothing was down where the cursor left
+pub record Balances (old new : Option (List ℕ)) : Type 0 where
+  pub lines : List Line
+  pub written : new ≡ after old (flat_map line_of lines)
+  pub balanced : Balanced lines
+  pub leaves : ClearAtLeaves lines
+
+-- so it is at every end, but where the sink failed
+abbrev pub Releases : Status → Option (List ℕ) → Option (List ℕ) → Type 0
+Releases status.WriteFault old new = Unit {0}
+Releases end old new = Balances old new

@@ -24,6 +24,9 @@ IsByBytes status.Ok = Unit {0}
 IsByBytes (status.BadFrames place why) = Unit {0}
 IsByBytes (status.NotYet place) = Unit {0}
 IsByBytes (status.Lost cause) = Unit {0}
+IsByBytes (status.Refused which) = Unit {0}
+IsByBytes status.LinkFault = ⊥
+IsByBytes status.TurnsSpent = ⊥
 IsByBytes status.InputTooLong = ⊥
 IsByBytes status.Usage = ⊥
 IsByBytes status.ReadFault = ⊥
@@ -53,4 +56,4 @@ EndsHere w end place rest = IsByBytes end × (((rest ≡ []) × (end ≡ w.betwe
 -- the last lines were written, and the command ended so; or a front of them was, and the sink failed
 abbrev pub Finishes : Way → Status → Status → List Msg → Option (List ℕ) → Option (List ℕ) → ℕ → ℕ → Type 0
 Finishes w end result messages old new sink sink' =
-    ((result ≡ end) × (new ≡ after old (w.releases messages)) × (sink' ≡ sink)) ⊎ ((result ≡ status.WriteFault) × TakesFront (w.releases messages) old new × Rises sink sink')
+    ((result ≡ end) × (new ≡ after old (w.last messages)) × (sink' ≡ sink)) ⊎ ((result ≡ status.WriteFault) × TakesFront (w.last messages) old new × Rises sink sink')

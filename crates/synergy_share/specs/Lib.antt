@@ -3,6 +3,7 @@ pub mod Begins
 pub mod Showing
 pub mod Cores
 pub mod Shower
+pub mod Injecting
 pub mod Commands
 pub mod Causes
 pub mod Statuses

@@ -34,7 +34,7 @@ pub trait LineCore {
 
     /// The next piece of the stream, of which there are fewer than 2^63 bytes in all. It is not given
     /// once the core is done.
-    fn bytes(&mut self, piece: &[u8]) -> Result<(), OutOfMemory>
+    fn feed(&mut self, piece: &[u8]) -> Result<(), OutOfMemory>
         requires goes { done self.old ≡ None }
         requires fits { total self.old + length piece.now < 2 ^ 63 }
         ensures ok { OnOk result ((messages : List Msg) (rest taken : List ℕ) → kept self.old messages rest taken → (f : Further (way self.old) rest piece.now) × kept self.new (messages ++ f.more) f.rest' taken) }
@@ -42,11 +42,11 @@ pub trait LineCore {
         ensures way { way self.new ≡ way self.old };
 
     /// The lines that were printed and not taken yet.
-    fn lines(&self) -> &[u8]
+    fn printed(&self) -> &[u8]
         ensures { result.now ≡ lines self.now };
 
     /// Takes the lines away, once they are written.
-    fn clear_lines(&mut self)
+    fn clear_printed(&mut self)
         ensures kept { (messages : List Msg) (rest taken : List ℕ) → kept self.old messages rest taken → kept self.new messages rest (taken ++ lines self.old) }
         ensures heard { (messages : List Msg) (taken : List ℕ) → heard self.old messages taken → heard self.new messages (taken ++ lines self.old) }
         ensures empty { lines self.new ≡ [] }
@@ -54,17 +54,17 @@ pub trait LineCore {
         ensures way { way self.new ≡ way self.old };
 
     /// How the command has ended; `None` while it goes on.
-    fn done(&self) -> Option<Status>
+    fn status(&self) -> Option<Status>
         ensures { result ≡ done self.now };
 
     /// How the command ends where the stream ends, while it goes on.
-    fn at_end(&self) -> Status
+    fn status_at_end(&self) -> Status
         requires { done self.now ≡ None }
         ensures { (messages : List Msg) (rest taken : List ℕ) → kept self.now messages rest taken → EndsHere (way self.now) result (length (frames_of messages)) rest };
 
-    /// The lines at the end of the command, which ends so. It takes no memory.
-    fn ended(&mut self, end: Status) -> Lines
-        ensures releases { (messages : List Msg) (taken : List ℕ) → heard self.old messages taken → result ≡ (way self.old).releases messages };
+    /// The lines that are added at the end of the command, which ends so. It takes no memory.
+    fn last_lines(&mut self, end: Status) -> Lines
+        ensures last { (messages : List Msg) (taken : List ℕ) → heard self.old messages taken → result ≡ (way self.old).last messages };
 
     ghost keeps: { (core : Self) (messages : List Msg) (rest taken : List ℕ) → kept core messages rest taken → Keeps (way core) (lines core) (done core) (total core) messages rest taken };
 

@@ -7,6 +7,7 @@
 
 mod command;
 mod commands;
+mod inject_core;
 mod laws;
 mod line_core;
 mod real;
@@ -18,12 +19,12 @@ mod tests;
 mod top;
 
 pub use command::{Command, form};
-pub use commands::run_show;
+pub use commands::{run_inject, run_show};
 pub use laws::one_reading;
 pub use line_core::LineCore;
 pub use real::{StdSink, StdSource};
 pub use show_core::ShowCore;
-pub use status::{LostCause, Status};
+pub use status::Status;
 use std::env;
 use std::io::{ErrorKind, Write};
 use std::process::ExitCode;

@@ -69,7 +69,7 @@ impl LineCore for ShowCore {
 
     ghost prints = { λ core messages taken printed. printed };
 
-    fn bytes(&mut self, piece: &[u8]) -> Result<(), OutOfMemory> {
+    fn feed(&mut self, piece: &[u8]) -> Result<(), OutOfMemory> {
         self.framer.feed(piece)?;
         self.total += piece.len() as u64;
         loop {
@@ -84,19 +84,19 @@ impl LineCore for ShowCore {
         }
     }
 
-    fn lines(&self) -> &[u8] {
+    fn printed(&self) -> &[u8] {
         self.lines.as_slice()
     }
 
-    fn clear_lines(&mut self) {
+    fn clear_printed(&mut self) {
         self.lines.clear();
     }
 
-    fn done(&self) -> Option<Status> {
+    fn status(&self) -> Option<Status> {
         self.done
     }
 
-    fn at_end(&self) -> Status {
+    fn status_at_end(&self) -> Status {
         if self.place == self.total {
             return Status::Ok;
         }
@@ -106,7 +106,7 @@ impl LineCore for ShowCore {
         }
     }
 
-    fn ended(&mut self, _end: Status) -> Lines {
+    fn last_lines(&mut self, _end: Status) -> Lines {
         Lines::new()
     }
 }

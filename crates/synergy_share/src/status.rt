@@ -2,14 +2,8 @@
 
 ghost use Rattle.std.specs.Prelude.{◌≡◌};
 
+use client_core::{LostCause, Which};
 use share_base::{Lines, Reason, put_u64};
-
-/// How a connection was lost.
-#[derive(Clone, Copy, Debug, PartialEq, Eq)]
-pub enum LostCause {
-    /// It ended.
-    Ended,
-}
 
 /// How a command ends. `docs/protocol.md` has the table of codes and lines.
 #[derive(Clone, Copy, Debug, PartialEq, Eq)]
@@ -36,8 +30,14 @@ pub enum Status {
     ReadFault,
     /// The output failed.
     WriteFault,
+    /// The link failed.
+    LinkFault,
     /// Memory could not be had.
     OutOfMemory,
+    /// It had as many turns as it was given.
+    TurnsSpent,
+    /// The server refused the client.
+    Refused(Which),
     /// The peer was lost.
     Lost(LostCause),
 }
@@ -55,8 +55,11 @@ impl Status {
             Status::Usage => 2,
             Status::ReadFault => 3,
             Status::WriteFault => 4,
+            Status::LinkFault => 5,
             Status::OutOfMemory => 6,
-            Status::Lost(LostCause::Ended) => 9,
+            Status::TurnsSpent => 7,
+            Status::Refused(_) => 8,
+            Status::Lost(_) => 9,
             Status::NotYet { place: _ } => 10,
         }
     }
@@ -73,7 +76,17 @@ impl Status {
             Status::ReadFault => line.extend(b"read fault\n"),
             Status::WriteFault => line.extend(b"write fault\n"),
             Status::OutOfMemory => line.extend(b"out of memory\n"),
+            Status::LinkFault => line.extend(b"link fault\n"),
+            Status::TurnsSpent => line.extend(b"turns spent\n"),
+            Status::Refused(Which::Version) => line.extend(b"refused version\n"),
+            Status::Refused(Which::Eicv) => line.extend(b"refused EICV\n"),
+            Status::Refused(Which::Ebsy) => line.extend(b"refused EBSY\n"),
+            Status::Refused(Which::Eunk) => line.extend(b"refused EUNK\n"),
+            Status::Refused(Which::Ebad) => line.extend(b"refused EBAD\n"),
             Status::Lost(LostCause::Ended) => line.extend(b"lost ended\n"),
+            Status::Lost(LostCause::Failed) => line.extend(b"lost failed\n"),
+            Status::Lost(LostCause::Dead) => line.extend(b"lost dead\n"),
+            Status::Lost(LostCause::Slow) => line.extend(b"lost slow\n"),
             Status::BadFrames { place, reason } => {
                 line.extend(b"frames ");
                 put_u64(&mut line, place);

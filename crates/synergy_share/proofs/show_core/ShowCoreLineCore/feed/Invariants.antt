@@ -2,7 +2,7 @@ use Rattle.std.proofs.Common.{◌≡◌, None, List, ℕ, length}
 use Rattle.message_codec.specs.declared.messages.Msg.{Msg}
 use Rattle.synergy_share.specs.Shower.{Shown}
 use Rattle.synergy_share.proofs.Showing.{Gone}
-use Rattle.synergy_share.proofs.show_core.ShowCoreLineCore.bytes.Given as goal
+use Rattle.synergy_share.proofs.show_core.ShowCoreLineCore.feed.Given as goal
 
 -- some of the piece's messages were shown
 abbrev pub invariant-loop-end : goal.invariant-loop-end
