@@ -12,7 +12,7 @@ use Rattle.config_text.specs.declared.screens.Screen.{Screen}
 use Rattle.config_text.specs.declared.screens.Alias.{Alias}
 use Rattle.config_text.specs.Configurations.{Configuration}
 use Rattle.config_text.specs.Judging.{same_side}
-use Rattle.config_text.specs.Sides.{side_text, sides}
+use Rattle.config_text.specs.Sides.{side_text, sides as all_sides}
 
 abbrev pub one_tab : List ℕ
 one_tab = 9 ∷ []
@@ -88,14 +88,17 @@ unfoldable pub side_links : Configuration → ℕ → Side → List ℕ
 side_links c n side = flat_map (link_at c n side) hundredths
 
 unfoldable pub links_of : Configuration → ℕ → List ℕ
-links_of c n = block_text (name_of c n) (flat_map (side_links c n) sides)
+links_of c n = block_text (name_of c n) (flat_map (side_links c n) all_sides)
 
 abbrev pub links_text : Configuration → List ℕ
 links_text c = flat_map (links_of c) (numbers_of c)
+
+abbrev pub options_text : Configuration → List ℕ
+options_text c = option_lines one_tab c.settings
 
 -- ---- all
 
 unfoldable pub normal : Configuration → List ℕ
 normal c =
     ((section_of (codes "screens") (screens_text c) ++ section_of (codes "aliases") (aliases_text c))
-    ++ section_of (codes "links") (links_text c)) ++ section_of (codes "options") (option_lines one_tab c.settings)
+    ++ section_of (codes "links") (links_text c)) ++ section_of (codes "options") (options_text c)

@@ -91,8 +91,7 @@ impl Draft {
         };
         let text = formed(shapes::setting(bytes))?;
         let setting = own_setting(text)?;
-        self.config
-            .set_own(screen, setting.option, setting.value);
+        self.config.set_own(screen, setting.option, setting.value);
         Ok(())
     }
 

@@ -71,7 +71,7 @@ fn corner_set(settings: &Settings) -> u8
     settings.value(OptionName::SwitchCorners) as u8
 }
 
-fn protocol(settings: &Settings) -> Protocol
+fn protocol_of(settings: &Settings) -> Protocol
     ensures { result ≡ spec.protocol_of (standing settings.now OptionName.Protocol) }
 {
     if settings.value(OptionName::Protocol) == 0 {
@@ -102,7 +102,7 @@ fn globals_of(settings: &Settings) -> Globals
         win32_keep_foreground: flag(settings, OptionName::Win32KeepForeground),
         disable_lock_to_screen: flag(settings, OptionName::DisableLockToScreen),
         default_lock_to_screen_state: flag(settings, OptionName::DefaultLockToScreenState),
-        protocol: protocol(settings),
+        protocol: protocol_of(settings),
     }
 }
 

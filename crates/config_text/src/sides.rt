@@ -5,9 +5,9 @@ ghost use Rattle.config_text.specs.Sides.{side_text, side_named};
 
 use share_base::Side;
 
-const SIDES: [Side; 4] = [Side::Left, Side::Right, Side::Up, Side::Down];
+pub(crate) const SIDES: [Side; 4] = [Side::Left, Side::Right, Side::Up, Side::Down];
 
-fn word_of(side: Side) -> &'static [u8]
+pub(crate) fn word_of(side: Side) -> &'static [u8]
     ensures { result.now ≡ side_text side }
 {
     match side {

@@ -1,12 +1,12 @@
 -- What reading finds is what the definitions say, and what they say is found.
-use Rattle.std.proofs.Common.{◌≡◌, ℕ, ◌+◌, ◌-◌, ◌<◌, ◌≤◌, List, [], ◌++◌, length, drop, map, Ok, Err, refl, sym, ap, subst, ◌∙◌, arith}
+use Rattle.std.proofs.Common.{◌≡◌, ℕ, ◌+◌, ◌-◌, ◌≤◌, List, [], ◌++◌, length, drop, Ok, Err, sym, ap, subst, ◌∙◌, arith}
 use Rattle.std.proofs.lemmas.List.{length-append}
 use Rattle.message_codec.specs.declared.messages.End.{End}
 use Rattle.message_codec.specs.declared.coding.Code.{Code}
 use Rattle.message_codec.specs.declared.faults.BadBody.{BadBody}
 use Rattle.message_codec.specs.declared.faults.BadBody.TheVariants as bad
 use Rattle.message_codec.specs.Kinds.{Kind}
-use Rattle.message_codec.specs.Fields.{Field, kind_of, spelled_all}
+use Rattle.message_codec.specs.Fields.{Field, spelled_all}
 use Rattle.message_codec.specs.Reading.{read_fields}
 use Rattle.message_codec.specs.Table.{text, kinds}
 use Rattle.message_codec.specs.Refusals.{IsShort, Whole, Refuses}

@@ -1,5 +1,5 @@
 -- Reading fails exactly at the first part that doesn't fit.
-use Rattle.std.proofs.Common.{◌≡◌, ℕ, ℤ, zero, suc, ◌+◌, ◌^◌, ◌<◌, ◌≤◌, Bool, true, false, cond, ltb, List, [], ◌∷◌, ◌++◌, length, map, take, drop, Result, Ok, Err, refl, sym, ap, subst, ◌∙◌, append_assoc, arith, inl, inr}
+use Rattle.std.proofs.Common.{◌≡◌, ℕ, ℤ, zero, suc, ◌^◌, ◌<◌, Bool, true, false, cond, ltb, List, [], ◌∷◌, ◌++◌, length, map, take, drop, Result, Ok, Err, refl, sym, ap, ◌∙◌, append_assoc, arith, inl, inr}
 use Rattle.std.specs.Prelude.{◌⊎◌}
 use Rattle.std.specs.List.{flat_map, AllByRecursion}
 use Rattle.std.specs.Int.{Width, w16, w32, byte_len, from_be_bytes, to_be_bytes, cast_signed}
@@ -11,7 +11,7 @@ use Rattle.message_codec.specs.Kinds as kind
 use Rattle.message_codec.specs.Fields.{Field, Byte, Half, Signed, Word, Clip, Mark, Text, Words, kind_of, spelled, Fits, spelled_all}
 use Rattle.message_codec.specs.Reading.{Read, ◌>>=◌, number_at, signed_at, byte_at, text_at, words_at, read_field, read_fields}
 use Rattle.message_codec.specs.Refusals.{LacksFirst, Lacks}
-use Rattle.message_codec.proofs.Readers.{IsBytes, IsWide, wide16, wide32, bind_ok, ok_is, half_reader, word_reader}
+use Rattle.message_codec.proofs.Readers.{IsBytes, IsWide, wide32, word_reader}
 use Rattle.message_codec.proofs.FieldLaws.{field_takes, field_again}
 
 abbrev failed : {A : Type 0} → ℕ → Result A ℕ

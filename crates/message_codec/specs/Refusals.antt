@@ -1,5 +1,5 @@
 -- Why a body spells no message.
-use Rattle.std.specs.Prelude.{◌≡◌, ℕ, ◌+◌, ◌<◌, ◌^◌, ◌⊎◌, Bool, false, nat_lt, ◌||◌, List, [], ◌∷◌, ◌++◌, length, map, take, position, Option, Some, None}
+use Rattle.std.specs.Prelude.{◌≡◌, ℕ, ◌+◌, ◌<◌, ◌^◌, ◌⊎◌, Bool, false, nat_lt, ◌||◌, List, [], ◌∷◌, ◌++◌, length, map, take, position, Some, None}
 use Rattle.std.specs.List.{flat_map, AllByRecursion}
 use Rattle.std.specs.Int.{w32, to_be_bytes}
 use Rattle.message_codec.specs.declared.messages.End.{End}

@@ -1,6 +1,6 @@
 -- Lists in which no number stands twice.
-use Rattle.std.proofs.Common.{◌≡◌, ℕ, zero, suc, ◌+◌, ◌<◌, ◌≤◌, List, [], ◌∷◌, length, get_or, arith}
-use Rattle.std.specs.Prelude.{◌≢◌, All, AllPairs}
+use Rattle.std.proofs.Common.{ℕ, zero, suc, ◌<◌, List, ◌∷◌, length, get_or, arith}
+use Rattle.std.specs.Prelude.{◌≢◌, All}
 use Rattle.screen_links.specs.Walks.{AreDistinct}
 
 pub distinct_head : (x : ℕ) (xs : List ℕ) → AreDistinct (x ∷ xs) → All (λ y. x ≢ y) xs

@@ -1,5 +1,5 @@
 -- A walk over links that are apart has at most one landing.
-use Rattle.std.proofs.Common.{◌≡◌, ℕ, Bool, true, false, List, [], ◌∷◌, ◌++◌, sym, ap, ◌∙◌, subst}
+use Rattle.std.proofs.Common.{◌≡◌, ℕ, true, false, List, [], ◌∷◌, ◌++◌, sym, ap, ◌∙◌, subst}
 use Rattle.std.specs.Prelude.{All, Contains}
 use Rattle.std.proofs.lemmas.List.Elements.{All-head, All-tail}
 use Rattle.share_base.specs.declared.shape.Side.{Side}
@@ -7,7 +7,7 @@ use Rattle.share_base.specs.Screens.{has}
 use Rattle.screen_links.specs.declared.link.Link.{Link}
 use Rattle.screen_links.specs.declared.link.Landing.{Landing}
 use Rattle.screen_links.specs.Apart.{AreApart}
-use Rattle.screen_links.specs.Walks.{Leaves, Leads, landing_of, Across}
+use Rattle.screen_links.specs.Walks.{Leads, landing_of, Across}
 use Rattle.screen_links.proofs.OneLink.{one_leaves}
 
 -- a link is not both joined and passed

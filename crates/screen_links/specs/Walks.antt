@@ -1,6 +1,5 @@
 -- A walk over links, from a place on a side of a screen to the next screen that is there.
-use Rattle.std.specs.Prelude.{◌≡◌, ◌≢◌, ◌↔◌, Option, Some, ℕ, ◌+◌, ◌-◌, ◌*◌, ◌/◌, ◌<◌, ◌≤◌, Bool, true, false, List, [], ◌∷◌, ◌++◌, map, All, AllPairs, Contains}
-use Rattle.share_base.specs.declared.numbers.ScreenNo.{ScreenNo}
+use Rattle.std.specs.Prelude.{◌≡◌, ◌≢◌, ◌↔◌, Option, Some, ℕ, ◌+◌, ◌-◌, ◌*◌, ◌/◌, ◌<◌, ◌≤◌, true, false, List, [], ◌∷◌, ◌++◌, map, All, AllPairs, Contains}
 use Rattle.share_base.specs.declared.shape.Side.{Side}
 use Rattle.share_base.specs.Screens.{has}
 use Rattle.screen_links.specs.declared.link.Link.{Link}

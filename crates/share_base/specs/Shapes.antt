@@ -1,5 +1,5 @@
 -- Shapes of screens, and their sides.
-use Rattle.std.specs.Prelude.{Bool, true, false, ℤ, pos, negsuc, ◌+ℤ◌, ◌≤ℤ◌}
+use Rattle.std.specs.Prelude.{Bool, true, false, pos, negsuc, ◌+ℤ◌, ◌≤ℤ◌}
 use Rattle.share_base.specs.declared.shape.Shape.{Shape}
 use Rattle.share_base.specs.declared.shape.Side.{Side}
 use Rattle.share_base.specs.declared.shape.Side.TheVariants.{Left, Right, Up, Down}

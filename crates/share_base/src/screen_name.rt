@@ -108,9 +108,7 @@ fn undotted(bytes: &[u8]) -> &[u8]
 fn all_parts(bytes: &[u8]) -> bool
     ensures { result ≡ list_all spec.is_part (slice_split (λ b. b == 46) bytes.now) }
 {
-    bytes
-        .split(|byte| *byte == b'.')
-        .all(|part| is_part(part))
+    bytes.split(|byte| *byte == b'.').all(|part| is_part(part))
 }
 
 #[tactic(auto, unfolding(crate::specs::Names::is_name))]

@@ -51,3 +51,31 @@ fn memory_fails_at_the_listed_calls(rt: HostRuntime) -> Result<(), Fail> {
     assert_eq!(rt; sink.bytes(), b"abc".as_slice());
     Ok(())
 }
+
+#[test]
+fn names_are_read_and_compared(rt: HostRuntime) -> Result<(), Fail> {
+    let desk = ScreenName::read(b"Desk_1.left-half.").ok_or("a name")?;
+    let same = ScreenName::read(b"desk_1.LEFT-half.").ok_or("a name")?;
+    assert!(rt; desk.same(&same));
+    assert!(rt; ScreenName::read(b"").is_none());
+    assert!(rt; ScreenName::read(b"-desk").is_none());
+    assert!(rt; ScreenName::read(b"a..b").is_none());
+    assert!(rt; ScreenName::read(b".").is_none());
+    assert!(rt; ScreenName::read(&[b'a'; 255]).is_some());
+    assert!(rt; ScreenName::read(&[b'a'; 256]).is_none());
+    Ok(())
+}
+
+#[test]
+fn files_are_read_whole(rt: HostRuntime) -> Result<(), Fail> {
+    let mut files = MemoryFiles::new(rt.alloc(), &[2])?;
+    files.add("a", b"abc")?;
+    match files.read_all("a", 3) {
+        FileAnswer::Bytes(bytes) => assert_eq!(rt; bytes.as_slice(), b"abc".as_slice()),
+        _ => assert!(rt; false),
+    }
+    assert!(rt; matches!(files.read_all("a", 3), FileAnswer::Failed));
+    assert!(rt; matches!(files.read_all("a", 2), FileAnswer::TooBig));
+    assert!(rt; matches!(files.read_all("b", 2), FileAnswer::Failed));
+    Ok(())
+}

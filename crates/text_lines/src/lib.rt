@@ -12,9 +12,9 @@
 mod bytes;
 mod decimal_text;
 mod lines;
-mod word_reading;
 #[cfg(test)]
 mod tests;
+mod word_reading;
 
 pub use bytes::{WordKind, unblanked, word_len};
 pub use decimal_text::decimal;

@@ -28,10 +28,10 @@ loop-rest-preserved c =
     let some : 0 < length c.loop-rest.rest.now = is_some c.loop-rest.rest.now (sym c.loop-rest-test.true ∙ c.is_empty-in-loop-rest.ensures) in
     record {
       same = word_taken _ c.loop-rest.set c.in-Some.next c.loop-rest.rest.now c.split_at.result.0.now c.split_at.result.1.now c.unblanked-rest-in-loop-rest.result.now
-      c.loop-rest.invariant.same c.loop-rest.invariant.tight some
-      (c.split_at.ensures.front ∙ ap (λ n. take n c.loop-rest.rest.now) c.word_len.ensures.len)
-      (c.split_at.ensures.back ∙ ap (λ n. drop n c.loop-rest.rest.now) c.word_len.ensures.len)
-      c.unblanked-rest-in-loop-rest.ensures.value (sym c.after_word.ensures.gives ∙ c.in-Some.is);
+          c.loop-rest.invariant.same c.loop-rest.invariant.tight some
+          (c.split_at.ensures.front ∙ ap (λ n. take n c.loop-rest.rest.now) c.word_len.ensures.len)
+          (c.split_at.ensures.back ∙ ap (λ n. drop n c.loop-rest.rest.now) c.word_len.ensures.len)
+          c.unblanked-rest-in-loop-rest.ensures.value (sym c.after_word.ensures.gives ∙ c.in-Some.is);
       tight = tight_like c.split_at.result.1.now c.unblanked-rest-in-loop-rest.result.now c.unblanked-rest-in-loop-rest.ensures.value;
       bound = c.in-Some.ensures.bound;
     }

@@ -1,4 +1,4 @@
-use Rattle.std.proofs.Common.{rules, ◌≡◌, ◌∙◌, ◌||◌, ◌↔◌, Bool, Some, eqb, ap, sym, subst, arith}
+use Rattle.std.proofs.Common.{rules, ◌≡◌, ◌∙◌, ◌||◌, ◌↔◌, Bool, Some, eqb, ap, sym, subst}
 use Rattle.screen_links.specs.declared.link.Landing.{Landing}
 use Rattle.screen_links.specs.Walks.{Across}
 use Rattle.screen_links.proofs.Onward.{Left, left_none, left_more, ends_stuck, ends_seen, ends_there}

@@ -1,0 +1,261 @@
+//! The normal form of a configuration.
+
+ghost use Rattle.std.specs.Prelude.{◌≡◌, ◌<◌, ◌≤◌, ◌++◌, ◌∷◌, [], length, IfSome, OnOk, OnErr, slice_get, if◌then◌else◌, ◌==◌, ◌&&◌, codes};
+ghost use Rattle.std.specs.Option.{option_copied};
+ghost use Rattle.std.specs.List.{find, flat_map};
+ghost use Rattle.text_lines.specs.Reading.{is_empty};
+ghost use Rattle.config_text.specs.Judging.{same_side};
+ghost use Rattle.config_text.specs.Sides.{sides};
+ghost use Rattle.config_text.specs.Normal as spec;
+ghost use Rattle.config_text.specs.Normal.{normal};
+
+use crate::config::Config;
+use crate::screens::{Alias, Screen};
+use crate::sides::{SIDES, word_of};
+use option_table::{put_number, put_option_lines};
+use screen_links::{Link, Range};
+use share_base::{Octets, OutOfMemory, ScreenNo, Side};
+use std::alloc::Global;
+
+#[tactic(auto, unfolding(crate::specs::Normal::header_text))]
+fn put_header(name: &[u8], out: &mut Octets) -> Result<(), OutOfMemory>
+    ensures { OnOk result (out.new ≡ out.old ++ spec.header_text name.now) }
+{
+    out.extend(b"\t")?;
+    out.extend(name)?;
+    out.extend(b":\n")
+}
+
+fn put_block(name: &[u8], below: &[u8], out: &mut Octets) -> Result<(), OutOfMemory>
+    ensures { OnOk result (out.new ≡ out.old ++ spec.block_text name.now below.now) }
+{
+    match below {
+        [] => Ok(()),
+        [_, ..] => {
+            put_header(name, out)?;
+            out.extend(below)
+        }
+    }
+}
+
+#[tactic(auto, unfolding(crate::specs::Normal::section_of))]
+fn put_section(name: &[u8], below: &[u8], out: &mut Octets) -> Result<(), OutOfMemory>
+    ensures { OnOk result (out.new ≡ out.old ++ spec.section_of name.now below.now) }
+{
+    out.extend(b"section: ")?;
+    out.extend(name)?;
+    out.push(b'\n')?;
+    out.extend(below)?;
+    out.extend(b"end\n")
+}
+
+#[tactic(auto, unfolding(crate::specs::Normal::screen_text))]
+fn put_screen(screen: &Screen, out: &mut Octets) -> Result<(), OutOfMemory>
+    ensures { OnOk result (out.new ≡ out.old ++ spec.screen_text screen.now) }
+{
+    put_header(screen.name.as_slice(), out)?;
+    put_option_lines(b"\t\t", &screen.settings, out)
+}
+
+fn put_screens(screens: &[Screen], out: &mut Octets) -> Result<(), OutOfMemory>
+    ensures { OnOk result (out.new ≡ out.old ++ flat_map spec.screen_text screens.now) }
+{
+    for screen in screens {
+        put_screen(screen, out)?;
+    }
+    Ok(())
+}
+
+#[tactic(auto, unfolding(crate::specs::Normal::alias_text))]
+fn put_alias(screen: u16, alias: &Alias, out: &mut Octets) -> Result<(), OutOfMemory>
+    ensures { OnOk result (out.new ≡ out.old ++ spec.alias_text screen alias.now) }
+{
+    if alias.screen != screen {
+        return Ok(());
+    }
+    out.extend(b"\t\t")?;
+    out.extend(alias.name.as_slice())?;
+    out.push(b'\n')
+}
+
+fn put_alias_lines(screen: u16, aliases: &[Alias], out: &mut Octets) -> Result<(), OutOfMemory>
+    ensures { OnOk result (out.new ≡ out.old ++ flat_map (spec.alias_text screen) aliases.now) }
+{
+    for alias in aliases {
+        put_alias(screen, alias, out)?;
+    }
+    Ok(())
+}
+
+#[tactic(auto, unfolding(crate::specs::Normal::range_text))]
+fn put_range(range: Range, out: &mut Octets) -> Result<(), OutOfMemory>
+    ensures { OnOk result (out.new ≡ out.old ++ spec.range_text range) }
+{
+    if range.a == 0 && range.b == 100 {
+        return Ok(());
+    }
+    out.extend(b"(")?;
+    put_number(u32::from(range.a), out)?;
+    out.extend(b",")?;
+    put_number(u32::from(range.b), out)?;
+    out.extend(b")")
+}
+
+fn is_link_at(link: &Link, from: u16, side: Side, a: u8) -> bool
+    ensures { result ≡ (link.now.from.0 == from) && same_side link.now.side side && (link.now.range.a == a) }
+{
+    link.from.0 == from && link.side == side && link.range.a == a
+}
+
+fn find_link(links: &[Link], from: u16, side: Side, a: u8) -> Option<&Link>
+    ensures { option_copied result ≡ find (λ l. (l.from.0 == from) && same_side l.side side && (l.range.a == a)) links.now }
+{
+    links.iter().find(|link| is_link_at(link, from, side, a))
+}
+
+impl Config {
+    #[tactic(auto, unfolding(crate::specs::Normal::aliases_of))]
+    fn put_aliases_of(
+        &self,
+        alloc: Global,
+        screen: u16,
+        out: &mut Octets,
+    ) -> Result<(), OutOfMemory>
+        requires { screen < length self.now.screens }
+        ensures { OnOk result (out.new ≡ out.old ++ spec.aliases_of self.now screen) }
+    {
+        let mut below = Octets::new(alloc);
+        put_alias_lines(screen, self.aliases.as_slice(), &mut below)?;
+        put_block(
+            self.name(ScreenNo(screen)).as_slice(),
+            below.as_slice(),
+            out,
+        )
+    }
+
+    fn put_aliases(&self, alloc: Global, out: &mut Octets) -> Result<(), OutOfMemory>
+        ensures { OnOk result (out.new ≡ out.old ++ spec.aliases_text self.now) }
+    {
+        for screen in 0..self.count() {
+            self.put_aliases_of(alloc, screen, out)?;
+        }
+        Ok(())
+    }
+
+    fn name_bytes(&self, screen: ScreenNo) -> &[u8]
+        ensures { result.now ≡ spec.name_of self.now screen.0 }
+    {
+        match self.screens.get(screen.0 as usize) {
+            Some(screen) => screen.name.as_slice(),
+            None => &[],
+        }
+    }
+
+    #[tactic(auto, unfolding(crate::specs::Normal::link_text))]
+    fn put_link(&self, link: &Link, out: &mut Octets) -> Result<(), OutOfMemory>
+        ensures { OnOk result (out.new ≡ out.old ++ spec.link_text self.now link.now) }
+    {
+        out.extend(b"\t\t")?;
+        out.extend(word_of(link.side))?;
+        put_range(link.range, out)?;
+        out.extend(b" = ")?;
+        out.extend(self.name_bytes(link.to))?;
+        put_range(link.onto, out)?;
+        out.push(b'\n')
+    }
+
+    #[tactic(auto, unfolding(crate::specs::Normal::link_at))]
+    fn put_link_at(&self, from: u16, side: Side, a: u8, out: &mut Octets) -> Result<(), OutOfMemory>
+        ensures { OnOk result (out.new ≡ out.old ++ spec.link_at self.now from side a) }
+    {
+        match find_link(self.links.as_slice(), from, side, a) {
+            Some(link) => self.put_link(link, out),
+            None => Ok(()),
+        }
+    }
+
+    #[tactic(auto, unfolding(crate::specs::Normal::side_links))]
+    fn put_side(&self, from: u16, side: Side, out: &mut Octets) -> Result<(), OutOfMemory>
+        ensures { OnOk result (out.new ≡ out.old ++ spec.side_links self.now from side) }
+    {
+        for a in 0..100 {
+            self.put_link_at(from, side, a, out)?;
+        }
+        Ok(())
+    }
+
+    fn put_sides(&self, from: u16, out: &mut Octets) -> Result<(), OutOfMemory>
+        ensures { OnOk result (out.new ≡ out.old ++ flat_map (spec.side_links self.now from) sides) }
+    {
+        for side in SIDES {
+            self.put_side(from, side, out)?;
+        }
+        Ok(())
+    }
+
+    #[tactic(auto, unfolding(crate::specs::Normal::links_of))]
+    fn put_links_of(&self, alloc: Global, from: u16, out: &mut Octets) -> Result<(), OutOfMemory>
+        requires { from < length self.now.screens }
+        ensures { OnOk result (out.new ≡ out.old ++ spec.links_of self.now from) }
+    {
+        let mut below = Octets::new(alloc);
+        self.put_sides(from, &mut below)?;
+        put_block(self.name(ScreenNo(from)).as_slice(), below.as_slice(), out)
+    }
+
+    fn put_links(&self, alloc: Global, out: &mut Octets) -> Result<(), OutOfMemory>
+        ensures { OnOk result (out.new ≡ out.old ++ spec.links_text self.now) }
+    {
+        for screen in 0..self.count() {
+            self.put_links_of(alloc, screen, out)?;
+        }
+        Ok(())
+    }
+
+    fn put_screens_section(&self, alloc: Global, out: &mut Octets) -> Result<(), OutOfMemory>
+        ensures { OnOk result (out.new ≡ out.old ++ spec.section_of (codes "screens") (spec.screens_text self.now)) }
+    {
+        let mut below = Octets::new(alloc);
+        put_screens(self.screens.as_slice(), &mut below)?;
+        put_section(b"screens", below.as_slice(), out)
+    }
+
+    fn put_aliases_section(&self, alloc: Global, out: &mut Octets) -> Result<(), OutOfMemory>
+        ensures { OnOk result (out.new ≡ out.old ++ spec.section_of (codes "aliases") (spec.aliases_text self.now)) }
+    {
+        let mut below = Octets::new(alloc);
+        self.put_aliases(alloc, &mut below)?;
+        put_section(b"aliases", below.as_slice(), out)
+    }
+
+    fn put_links_section(&self, alloc: Global, out: &mut Octets) -> Result<(), OutOfMemory>
+        ensures { OnOk result (out.new ≡ out.old ++ spec.section_of (codes "links") (spec.links_text self.now)) }
+    {
+        let mut below = Octets::new(alloc);
+        self.put_links(alloc, &mut below)?;
+        put_section(b"links", below.as_slice(), out)
+    }
+
+    fn put_options_section(&self, alloc: Global, out: &mut Octets) -> Result<(), OutOfMemory>
+        ensures { OnOk result (out.new ≡ out.old ++ spec.section_of (codes "options") (spec.options_text self.now)) }
+    {
+        let mut below = Octets::new(alloc);
+        put_option_lines(b"\t", &self.settings, &mut below)?;
+        put_section(b"options", below.as_slice(), out)
+    }
+}
+
+/// Adds the normal form of a configuration, which spells it again. After `OutOfMemory` nothing was
+/// added.
+#[tactic(auto, unfolding(crate::specs::Normal::normal))]
+pub fn print(alloc: Global, config: &Config, out: &mut Octets) -> Result<(), OutOfMemory>
+    ensures ok { OnOk result (out.new ≡ out.old ++ normal config.now) }
+    ensures err { OnErr result (out.new ≡ out.old) }
+{
+    let mut text = Octets::new(alloc);
+    config.put_screens_section(alloc, &mut text)?;
+    config.put_aliases_section(alloc, &mut text)?;
+    config.put_links_section(alloc, &mut text)?;
+    config.put_options_section(alloc, &mut text)?;
+    out.extend(text.as_slice())
+}
