@@ -282,3 +282,63 @@ stops_here w total left l before_l taken taken' e before_e messages rest written
   begins = subst (λ (x : List ℕ). Begins w messages x rest) (take_all input_limit s.read (omega (arith, s.total_is))) s.begins;
   partial = partial;
 }
+
+-- ---- the exits of a run, where the core's way is the command's
+
+no_fault : {A : Type 0} → status.ReadFault ≡ status.WriteFault → A
+no_fault same = absurd cc
+
+no_memory_fault : {A : Type 0} → status.OutOfMemory ≡ status.WriteFault → A
+no_memory_fault same = absurd cc
+
+no_limit_fault : {A : Type 0} → status.InputTooLong ≡ status.WriteFault → A
+no_limit_fault same = absurd cc
+
+-- all was written, and the last lines were, or not
+pub finished : (w v : Way) → v ≡ w → (end result : Status) (total : ℕ) (left l l' taken taken' new : Option (List ℕ)) (ended : Option Bool) (messages : List Msg) (rest written lines : List ℕ) (sink sink' : ℕ) → Stands w total left l taken taken' messages rest written → l' ≡ l → Printed v lines messages written → lines ≡ []
+    → ((s : List ℕ) → total ≡ length s → EndsAt w end s l' ended (length (frames_of messages)) rest) → (end ≢ status.WriteFault) → Finishes v end result messages taken' new sink sink' → Reads w result left l' ended taken new
+finished w v way end result total left l l' taken taken' new ended messages rest written lines sink sink' s same p none ends fine f =
+    reads_finished w end result total left l l' taken taken' new ended messages rest written sink sink' s same (all_written w lines messages written (subst (λ (q : Way). Printed q lines messages written) way p) none)
+    (λ read consumed total-is. ends read total-is) fine (subst (λ (q : Way). Finishes q end result messages taken' new sink sink') way f)
+
+pub finished_fault : (w v : Way) → v ≡ w → (result : Status) (total : ℕ) (left l l' taken taken' new : Option (List ℕ)) (ended : Option Bool) (messages : List Msg) (rest written lines : List ℕ) (sink sink' : ℕ) → Stands w total left l taken taken' messages rest written → l' ≡ l → Printed v lines messages written → lines ≡ []
+    → IsPartial body_limit rest → Finishes v status.ReadFault result messages taken' new sink sink' → Reads w result left l' ended taken new
+finished_fault w v way result total left l l' taken taken' new ended messages rest written lines sink sink' s same p none partial f =
+    finished w v way status.ReadFault result total left l l' taken taken' new ended messages rest written lines sink sink' s same p none (λ read total-is. read_fault refl partial) (λ e. no_fault e) f
+
+pub finished_memory : (w v : Way) → v ≡ w → (result : Status) (total : ℕ) (left l taken taken' new : Option (List ℕ)) (ended : Option Bool) (messages : List Msg) (rest written lines : List ℕ) (sink sink' : ℕ) → Stands w total left l taken taken' messages rest written → Printed v lines messages written → lines ≡ []
+    → Finishes v status.OutOfMemory result messages taken' new sink sink' → Reads w result left l ended taken new
+finished_memory w v way result total left l taken taken' new ended messages rest written lines sink sink' s p none f =
+    finished w v way status.OutOfMemory result total left l l taken taken' new ended messages rest written lines sink sink' s refl p none (λ read total-is. no_memory refl) (λ e. no_memory_fault e) f
+
+pub finished_limit : (w v : Way) → v ≡ w → (result : Status) (total : ℕ) (left l taken taken' new : Option (List ℕ)) (ended : Option Bool) (messages : List Msg) (rest written lines : List ℕ) (sink sink' : ℕ) → Stands w total left l taken taken' messages rest written → Printed v lines messages written → lines ≡ []
+    → IsPartial body_limit rest → input_limit < total → Finishes v status.InputTooLong result messages taken' new sink sink' → Reads w result left l ended taken new
+finished_limit w v way result total left l taken taken' new ended messages rest written lines sink sink' s p none partial long f =
+    finished w v way status.InputTooLong result total left l l taken taken' new ended messages rest written lines sink sink' s refl p none (λ read total-is. too_long refl partial (omega (arith, total-is))) (λ e. no_limit_fault e) f
+
+pub finished_end : (w v : Way) → v ≡ w → (end result : Status) (total : ℕ) (left l l' taken taken' new : Option (List ℕ)) (e e' : Option Bool) (buffer : List ℕ) (messages : List Msg) (rest written lines : List ℕ) (sink sink' : ℕ) → Stands w total left l taken taken' messages rest written → Printed v lines messages written → lines ≡ []
+    → IsPartial body_limit rest → EndsHere v end (length (frames_of messages)) rest → ReadGives answer.End buffer l l' → ReadEnds answer.End e e' → total ≤ input_limit → Finishes v end result messages taken' new sink sink' → Reads w result left l' e' taken new
+finished_end w v way end result total left l l' taken taken' new e e' buffer messages rest written lines sink sink' s p none partial here gives ends within f =
+    finished w v way end result total left l l' taken taken' new e' messages rest written lines sink sink' s gives.1 p none
+    (λ read total-is. ends_at_end w end total l l' e e' buffer messages rest read partial (subst (λ (q : Way). EndsHere q end (length (frames_of messages)) rest) way here) gives ends within total-is) (fine_by_bytes end here.0) f
+
+-- a core that has ended stands at what ended it
+stops_of : (w : Way) (done : Option Status) (end : Status) (place : ℕ) (rest : List ℕ) → Some end ≡ done → StandsAt w done place rest → StopsAt w end place rest × IsByBytes end
+stops_of w None end place rest is stands = absurd cc
+stops_of w (Some e) end place rest is stands = subst (λ (x : Status). StopsAt w x place rest × IsByBytes x) (sym (some_is end e is)) stands
+  where
+    some_is : (x y : Status) → Some x ≡ Some y → x ≡ y
+    some_is x y same = cc
+
+pub finished_stop : (w v : Way) → v ≡ w → (end result : Status) (fed total : ℕ) (left l taken taken' new : Option (List ℕ)) (ended : Option Bool) (done : Option Status) (messages : List Msg) (rest written lines : List ℕ) (sink sink' : ℕ) → Stands w total left l taken taken' messages rest written → Keeps v lines done fed messages rest written → lines ≡ []
+    → Some end ≡ done → Finishes v end result messages taken' new sink sink' → Reads w result left l ended taken new
+finished_stop w v way end result fed total left l taken taken' new ended done messages rest written lines sink sink' s k none is f =
+    let stops = stops_of v done end (length (frames_of messages)) rest is k.stands in
+    finished w v way end result total left l l taken taken' new ended messages rest written lines sink sink' s refl k.printed none
+    (λ read total-is. by_frame (subst (λ (q : Way). StopsAt q end (length (frames_of messages)) rest) way stops.0)) (fine_by_bytes end stops.1) f
+
+pub by_bytes_of : (w : Way) (lines : List ℕ) (done : Option Status) (end : Status) (fed : ℕ) (messages : List Msg) (rest written : List ℕ) → Keeps w lines done fed messages rest written → Some end ≡ done → IsByBytes end
+by_bytes_of w lines done end fed messages rest written k is = (stops_of w done end (length (frames_of messages)) rest is k.stands).1
+
+pub printed_as : (w v : Way) → v ≡ w → (lines : List ℕ) (messages : List Msg) (written : List ℕ) → Printed v lines messages written → Printed w lines messages written
+printed_as w v way lines messages written p = subst (λ (q : Way). Printed q lines messages written) way p

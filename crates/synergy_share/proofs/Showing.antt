@@ -74,9 +74,12 @@ gone_unfed core messages rest piece taken k = (
   subst (λ (ms : List Msg). Printed (showing core.from) core.lines ms taken) (sym (append-nil messages)) k.keeps.printed,
 )
 
--- what was shown so far stands
-pub printed_of : (from : End) (framer : FramerParts) (lines : List ℕ) (place total : ℕ) (messages : List Msg) (rest piece taken : List ℕ) → Gone from framer lines place total messages rest piece taken → (f : Further (showing from) rest piece) × Printed (showing from) lines (messages ++ f.more) taken
-printed_of from framer lines place total messages rest piece taken w = (w.further, w.going.printed)
+-- memory was wanting for the next message: those so far were shown
+pub err_of : (start from : End) → start ≡ from → (framer : FramerParts) (lines lines' : List ℕ) (place total : ℕ) (messages : List Msg) (rest piece taken : List ℕ) → Gone from framer lines place total messages rest piece taken → lines' ≡ lines
+    → (f : Further (showing start) rest piece) × Printed (showing from) lines' (messages ++ f.more) taken
+err_of start from same framer lines lines' place total messages rest piece taken w kept =
+    subst (λ (e : End). (f : Further (showing e) rest piece) × Printed (showing from) lines' (messages ++ f.more) taken) (sym same)
+    (w.further, subst (λ (x : List ℕ). Printed (showing from) x (messages ++ w.further.more) taken) (sym kept) w.going.printed)
 
 -- a message was shown
 going_one : (from : End) (f g : FramerParts) (lines lines' : List ℕ) (place end total : ℕ) (messages : List Msg) (rest taken : List ℕ) → Going from f lines place total messages rest taken → (s : ShowsOne from end f g lines lines')
@@ -108,10 +111,11 @@ gone_same from f g lines lines' place total messages rest piece taken w same kep
     subst (λ (x : FramerParts). Gone from x lines' place total messages rest piece taken) (sym same) (subst (λ (x : List ℕ). Gone from f x place total messages rest piece taken) (sym kept) w)
 
 -- no whole frame is left
-pub shown_more : (core : ShowCore) (messages : List Msg) (rest piece taken : List ℕ) → Gone core.from core.framer core.lines core.place core.total messages rest piece taken → IsPartial body_limit core.framer.rest → core.done ≡ None
-    → (f : Further (showing core.from) rest piece) × Shown core (messages ++ f.more) f.rest' taken
-shown_more core messages rest piece taken w partial none =
-    let ms : List Msg = messages ++ w.further.more in (
+pub shown_more : (core : ShowCore) (start : End) → start ≡ core.from → (messages : List Msg) (rest piece taken : List ℕ) → Gone core.from core.framer core.lines core.place core.total messages rest piece taken → IsPartial body_limit core.framer.rest → core.done ≡ None
+    → (f : Further (showing start) rest piece) × Shown core (messages ++ f.more) f.rest' taken
+shown_more core start same messages rest piece taken w partial none =
+    let ms : List Msg = messages ++ w.further.more in
+    subst (λ (e : End). (f : Further (showing e) rest piece) × Shown core (messages ++ f.more) f.rest' taken) (sym same) (
       w.further,
       record {
         keeps = record {
@@ -125,12 +129,13 @@ shown_more core messages rest piece taken w partial none =
     )
 
 -- the command ends at the rest
-pub shown_stop : (core : ShowCore) (f : FramerParts) (end : Status) (messages : List Msg) (rest piece taken : List ℕ) → Gone core.from f core.lines core.place core.total messages rest piece taken → StopsAt (showing core.from) end f.given f.rest → IsByBytes end → core.done ≡ Some end
-    → (f : Further (showing core.from) rest piece) × Shown core (messages ++ f.more) f.rest' taken
-shown_stop core f end messages rest piece taken w stops by_bytes done =
+pub shown_stop : (core : ShowCore) (start : End) → start ≡ core.from → (f : FramerParts) (end : Status) (messages : List Msg) (rest piece taken : List ℕ) → Gone core.from f core.lines core.place core.total messages rest piece taken → StopsAt (showing core.from) end f.given f.rest → IsByBytes end → core.done ≡ Some end
+    → (f : Further (showing start) rest piece) × Shown core (messages ++ f.more) f.rest' taken
+shown_stop core start same f end messages rest piece taken w stops by_bytes done =
     let ms : List Msg = messages ++ w.further.more in
     let there : StopsAt (showing core.from) end (length (frames_of ms)) w.further.rest' =
-    subst (λ (n : ℕ). StopsAt (showing core.from) end n w.further.rest') w.going.stands.given (subst (StopsAt (showing core.from) end f.given) w.going.stands.rest_is stops) in (
+    subst (λ (n : ℕ). StopsAt (showing core.from) end n w.further.rest') w.going.stands.given (subst (StopsAt (showing core.from) end f.given) w.going.stands.rest_is stops) in
+    subst (λ (e : End). (f : Further (showing e) rest piece) × Shown core (messages ++ f.more) f.rest' taken) (sym same) (
       w.further,
       record {
         keeps = record {

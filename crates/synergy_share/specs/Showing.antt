@@ -11,6 +11,7 @@ use Rattle.synergy_share.specs.declared.show_next.Taken.{Taken}
 use Rattle.synergy_share.specs.declared.show_next.Taken.TheVariants as taken
 use Rattle.synergy_share.specs.Ways.{showing, shown}
 use Rattle.synergy_share.specs.Begins.{GoesOn, StopsAt}
+use Rattle.synergy_share.specs.Cores.{IsByBytes}
 
 -- a message stood at the front, and its line was added
 pub record ShowsOne (from : End) (end : ℕ) (old new : FramerParts) (lines lines' : List ℕ) : Type 0 where
@@ -24,5 +25,5 @@ pub record ShowsOne (from : End) (end : ℕ) (old new : FramerParts) (lines line
 abbrev pub ShowsNext : End → Result Taken OutOfMemory → FramerParts → FramerParts → List ℕ → List ℕ → Type 0
 ShowsNext from (Ok (taken.Line end)) old new lines lines' = ShowsOne from end old new lines lines'
 ShowsNext from (Ok taken.More) old new lines lines' = IsPartial body_limit old.rest × (new ≡ old) × (lines' ≡ lines)
-ShowsNext from (Ok (taken.End end)) old new lines lines' = StopsAt (showing from) end old.given old.rest × (lines' ≡ lines)
+ShowsNext from (Ok (taken.End end)) old new lines lines' = StopsAt (showing from) end old.given old.rest × IsByBytes end × (lines' ≡ lines)
 ShowsNext from (Err memory) old new lines lines' = lines' ≡ lines

@@ -4,7 +4,7 @@ use Rattle.wire_frames.specs.Framing.{IsPartial}
 use Rattle.wire_frames.specs.Framers.{FramerParts}
 use Rattle.message_codec.specs.declared.messages.Msg.{Msg}
 use Rattle.synergy_share.specs.Shower.{Shown}
-use Rattle.synergy_share.proofs.Showing.{gone_fed, gone_one, gone_same, gone_unfed, printed_of, shown_more, shown_stop}
+use Rattle.synergy_share.proofs.Showing.{gone_fed, gone_one, gone_same, gone_unfed, err_of, shown_more, shown_stop}
 use Rattle.synergy_share.proofs.show_core.ShowCoreLineCore.feed.Goals as goal
 
 on_err : {A E : Type 0} (r : Result A E) (P : Type 0) → P → OnErr r P
@@ -13,7 +13,7 @@ on_err (Err e) P p = p
 
 pub returns-in_err-feed-clause-err : goal.returns-in_err-feed-clause-err
 returns-in_err-feed-clause-err c =
-    on_err c.from_residual-in_err-feed.result _ (λ messages rest taken k. gone_unfed c.args.self.now messages rest c.args.piece.now taken k)
+    on_err c.from_residual.result _ (λ messages rest taken k. gone_unfed c.args.self.now messages rest c.args.piece.now taken k)
 
 pub loop-end-init : goal.loop-end-init
 loop-end-init c = record {
@@ -23,7 +23,10 @@ loop-end-init c = record {
 }
 
 pub returns-in_err-end-clause-err : goal.returns-in_err-end-clause-err
-returns-in_err-end-clause-err c = ?
+returns-in_err-end-clause-err c =
+    let l = c.loop-end in
+    on_err c.from_residual-in_err-end.result _ (λ messages rest taken k.
+      err_of c.args.self.now.from l.self.from (sym l.invariant.from) l.self.framer l.self.lines c.show_next.new.lines l.self.place l.self.total messages rest c.args.piece.now taken (l.invariant.gone messages rest taken k) c.in_err-end.ensures.shows)
 
 pub loop-end-preserved : goal.loop-end-preserved
 loop-end-preserved c =
@@ -36,7 +39,17 @@ loop-end-preserved c =
     }
 
 pub returns-in-More-clause-ok : goal.returns-in-More-clause-ok
-returns-in-More-clause-ok c = ?
+returns-in-More-clause-ok c messages rest taken k =
+    let l = c.loop-end in
+    let shows = rw c.in-More.is at c.in_ok-end.ensures.shows in
+    shown_more _ c.args.self.now.from (sym l.invariant.from) messages rest c.args.piece.now taken
+    (gone_same l.self.from l.self.framer c.show_next.new.framer l.self.lines c.show_next.new.lines l.self.place l.self.total messages rest c.args.piece.now taken (l.invariant.gone messages rest taken k) shows.1 shows.2)
+    (subst (λ (f : FramerParts). IsPartial 4194304 f.rest) (sym shows.1) shows.0) l.invariant.goes
 
 pub returns-in-End-clause-ok : goal.returns-in-End-clause-ok
-returns-in-End-clause-ok c = ?
+returns-in-End-clause-ok c messages rest taken k =
+    let l = c.loop-end in
+    let shows = rw c.in-End.is at c.in_ok-end.ensures.shows in
+    shown_stop _ c.args.self.now.from (sym l.invariant.from) l.self.framer c.in-End.status messages rest c.args.piece.now taken
+    (gone_same l.self.from l.self.framer l.self.framer l.self.lines c.show_next.new.lines l.self.place l.self.total messages rest c.args.piece.now taken (l.invariant.gone messages rest taken k) refl shows.2)
+    shows.0 shows.1 refl
