@@ -152,6 +152,7 @@ impl ClientCore {
         ensures done { self.new.done ≡ Some (unwrap_or self.old.done why) }
         ensures released { (messages : List Msg) (front : List ℕ) → Heard self.old messages front → Released messages ((front ++ lines_in self.old) ++ result) }
         ensures lines { lines_in self.new ≡ lines_in self.old }
+        ensures rest { self.new ≡ record self.old { printer = self.new.printer; done = self.new.done } }
         ensures bound { length result ≤ 13824 }
     {
         self.done = Some(self.done.unwrap_or(why));
