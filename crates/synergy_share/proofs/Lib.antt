@@ -3,3 +3,4 @@ pub mod Streams
 pub mod Showing
 pub mod Runs
 pub mod OneSplit
+pub mod Injection

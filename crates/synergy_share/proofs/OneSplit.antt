@@ -1,7 +1,6 @@
 -- A stream has one reading, and one end.
-use Rattle.std.proofs.Common.{◌≡◌, ◌≢◌, ◌^◌, ◌<◌, ◌≤◌, List, [], ◌∷◌, ◌++◌, ℕ, length, Option, Some, None, refl, sym, ap, subst, ◌∙◌, arith, inl, inr}
+use Rattle.std.proofs.Common.{◌≡◌, ◌^◌, ◌<◌, List, [], ◌∷◌, ◌++◌, ℕ, length, Option, Some, None, refl, sym, ap, subst, ◌∙◌, arith, inl, inr}
 use Rattle.std.specs.List.{AllByRecursion}
-use Rattle.wire_frames.specs.Framing.{IsPartial}
 use Rattle.wire_frames.proofs.OneFrame.{one_frame, frame_is_whole, frame_fits}
 use Rattle.share_base.specs.declared.reason.Reason.{Reason}
 use Rattle.share_base.specs.declared.reason.Reason.TheVariants as reason
@@ -11,9 +10,8 @@ use Rattle.message_codec.specs.Streams.{body_limit, frame_of, frames_of, plain}
 use Rattle.message_codec.specs.Verdicts.{IsRefused, IsMisplaced}
 use Rattle.message_codec.proofs.Bodies.{one_message}
 use Rattle.message_codec.proofs.RefusalLaws.{refused_spells_none}
-use Rattle.synergy_share.specs.declared.status.Status.{Status}
 use Rattle.synergy_share.specs.Ways.{Way}
-use Rattle.synergy_share.specs.Begins.{IsMessage, GoesOn, Begins, HasEnd, IsBad, IsSettled}
+use Rattle.synergy_share.specs.Begins.{IsMessage, GoesOn, Begins, IsBad, IsSettled}
 use Rattle.synergy_share.proofs.Streams.{frames-cons}
 
 small : (w : Way) (m : Msg) → IsMessage w m → length (body_of m) < 2 ^ 32

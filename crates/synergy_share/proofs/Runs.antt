@@ -1,5 +1,5 @@
 -- Running a command over what is read: where it stands before a read, and how each end follows.
-use Rattle.std.proofs.Common.{◌≡◌, ◌≢◌, ℕ, ◌+◌, ◌-◌, ◌^◌, ◌<◌, ◌≤◌, Bool, true, false, Some, None, List, [], ◌∷◌, ◌++◌, length, take, Option, min, ◌⊎◌, refl, sym, ap, subst, ◌∙◌, arith, inl, inr, append_assoc}
+use Rattle.std.proofs.Common.{◌≡◌, ◌≢◌, ℕ, ◌+◌, ◌-◌, ◌^◌, ◌<◌, ◌≤◌, Bool, Some, None, List, [], ◌++◌, length, take, Option, min, ◌⊎◌, refl, sym, ap, subst, ◌∙◌, arith, inl, inr, append_assoc}
 use Rattle.std.proofs.lemmas.List.{length-append, append-nil, length-take, take_all, take-take, take-append-le}
 use Rattle.std.proofs.lemmas.Bool.{cases_lt}
 use Rattle.std.proofs.Math.Seq.{take-append-add}
@@ -17,7 +17,7 @@ use Rattle.synergy_share.specs.declared.status.Status.TheVariants as status
 use Rattle.synergy_share.specs.Ways.{Way}
 use Rattle.synergy_share.specs.Begins.{Begins, StopsAt}
 use Rattle.synergy_share.specs.Cores.{Printed, StandsAt, Keeps, Further, EndsHere, IsByBytes, Finishes}
-use Rattle.synergy_share.specs.Commands.{input_limit, AtEnd, EndsAt, by_frame, at_the_end, too_long, read_fault, write_fault, no_memory, all_lines, Writes, Reads, Stops}
+use Rattle.synergy_share.specs.Commands.{input_limit, EndsAt, by_frame, at_the_end, too_long, read_fault, write_fault, no_memory, all_lines, Writes, Reads, Stops}
 use Rattle.synergy_share.specs.Causes.{Causes, SourceCounts, SinkCounts}
 use Rattle.synergy_share.proofs.Streams.{begins_none, begins_fed}
 
@@ -104,7 +104,7 @@ stands_written w total left l taken taken' new messages rest written lines shown
 -- the piece can be fed
 pub feed_fits : (w : Way) (lines : List ℕ) (done : Option Status) (fed total kept : ℕ) (buffer : List ℕ) (left l taken taken' : Option (List ℕ)) (messages : List Msg) (rest written : List ℕ) → Stands w total left l taken taken' messages rest written → Keeps w lines done fed messages rest written
     → total ≤ input_limit → kept ≤ input_limit - total → fed + length (take kept buffer) < 2 ^ 63
-feed_fits w lines done fed total kept buffer left l taken taken' messages rest written s k within few =
+feed_fits w lines ended fed total kept buffer left l taken taken' messages rest written s k within few =
     omega (arith, k.total_is, s.total_is, length-take kept buffer, ap length (sym (take_all input_limit s.read (omega (arith, s.total_is))) ∙ s.begins.stream_is), length-append (frames_of messages) rest)
 
 -- while it goes on, less than a frame is left
@@ -342,3 +342,6 @@ by_bytes_of w lines done end fed messages rest written k is = (stops_of w done e
 
 pub printed_as : (w v : Way) → v ≡ w → (lines : List ℕ) (messages : List Msg) (written : List ℕ) → Printed v lines messages written → Printed w lines messages written
 printed_as w v way lines messages written p = subst (λ (q : Way). Printed q lines messages written) way p
+
+abbrev pub further_as : (w v : Way) → v ≡ w → (rest piece : List ℕ) → Further v rest piece → Further w rest piece
+further_as w v way rest piece f = record { more = f.more; rest' = f.rest'; begins = subst (λ (q : Way). Begins q f.more (rest ++ piece) f.rest') way f.begins }

@@ -1,16 +1,16 @@
 -- The core of `show` between two frames of a piece.
-use Rattle.std.proofs.Common.{◌≡◌, ℕ, ◌+◌, Bool, false, cond, List, [], ◌∷◌, ◌++◌, length, Option, Some, None, refl, sym, ap, subst, ◌∙◌, append_assoc, arith, inl, add-zero}
+use Rattle.std.proofs.Common.{◌≡◌, ℕ, ◌+◌, Bool, false, cond, List, [], ◌∷◌, ◌++◌, length, Option, Some, None, refl, sym, ap, subst, ◌∙◌, append_assoc, arith, inl}
 use Rattle.std.proofs.lemmas.List.{length-append, append-nil}
 use Rattle.wire_frames.specs.Framing.{IsPartial}
-use Rattle.wire_frames.specs.Framers.{FramerParts, fed, moved, begun}
+use Rattle.wire_frames.specs.Framers.{FramerParts, fed, begun}
 use Rattle.message_codec.specs.declared.messages.End.{End}
 use Rattle.message_codec.specs.declared.messages.Msg.{Msg}
 use Rattle.message_codec.specs.Streams.{body_limit, frame_of, frames_of}
 use Rattle.synergy_share.specs.declared.status.Status.{Status}
 use Rattle.synergy_share.specs.declared.show_core.ShowCore.{ShowCore}
-use Rattle.synergy_share.specs.Ways.{Way, showing, shown}
-use Rattle.synergy_share.specs.Begins.{GoesOn, Begins, StopsAt}
-use Rattle.synergy_share.specs.Cores.{Printed, StandsAt, Keeps, Further, IsByBytes}
+use Rattle.synergy_share.specs.Ways.{showing, shown}
+use Rattle.synergy_share.specs.Begins.{GoesOn, StopsAt}
+use Rattle.synergy_share.specs.Cores.{Printed, StandsAt, Further, IsByBytes}
 use Rattle.synergy_share.specs.Showing.{ShowsOne}
 use Rattle.synergy_share.specs.Shower.{IsOpen, OpenAt, Shown}
 use Rattle.synergy_share.proofs.Streams.{flat_map-last, all-append, length-frames_of, begins_none, begins_one}

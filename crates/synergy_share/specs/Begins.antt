@@ -1,10 +1,10 @@
 -- Streams that begin with messages that a command prints, and what may stand after them.
-use Rattle.std.specs.Prelude.{◌≡◌, ℕ, ◌⊎◌, List, [], ◌++◌, Option, Some, None}
+use Rattle.std.specs.Prelude.{◌≡◌, ℕ, ◌⊎◌, List, [], ◌++◌, Some, None}
 use Rattle.std.specs.List.{AllByRecursion}
 use Rattle.share_base.specs.declared.reason.Reason.{Reason}
 use Rattle.wire_frames.specs.Framing.{IsPartial}
 use Rattle.message_codec.specs.declared.messages.Msg.{Msg}
-use Rattle.message_codec.specs.Streams.{body_limit, frame_of, frames_of, Reader, plain, IsGood}
+use Rattle.message_codec.specs.Streams.{body_limit, frame_of, frames_of, plain, IsGood}
 use Rattle.message_codec.specs.Verdicts as verdict
 use Rattle.synergy_share.specs.declared.status.Status.{Status}
 use Rattle.synergy_share.specs.declared.status.Status.TheVariants as status

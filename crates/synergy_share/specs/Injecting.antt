@@ -2,22 +2,22 @@
 use Rattle.std.specs.Prelude.{◌≡◌, ℕ, List, [], ◌∷◌, ◌++◌, length, Option, Some, None}
 use Rattle.std.specs.List.{AllByRecursion}
 use Rattle.std.specs.Option.{option_map}
-use Rattle.std.proofs.Common.{ap, sym, refl, ◌∙◌, inl, inr}
+use Rattle.std.proofs.Common.{ap, refl, inl, inr}
 use Rattle.message_codec.specs.declared.messages.Msg.{Msg}
-use Rattle.message_codec.specs.Streams.{frames_of, plain, IsGood, AllGood}
+use Rattle.message_codec.specs.Streams.{frames_of, IsGood, AllGood}
 use Rattle.client_core.specs.declared.client_end.ClientEnd.{ClientEnd}
 use Rattle.client_core.specs.declared.client_end.ClientEnd.TheVariants as end
 use Rattle.client_core.specs.declared.client.ClientCore.{ClientCore}
 use Rattle.client_core.specs.declared.stop.Stop.{Stop}
 use Rattle.client_core.specs.declared.stop.Stop.TheVariants as stop
-use Rattle.client_core.specs.Ends.{server, stop_of, end_at, HasStop, EndsAt}
-use Rattle.client_core.specs.Kept.{GoOn, Heard, Kept, StandsAt, lines_in}
+use Rattle.client_core.specs.Ends.{server, stop_of, HasStop, EndsAt}
+use Rattle.client_core.specs.Kept.{Heard, Kept, StandsAt, lines_in}
 use Rattle.share_base.specs.declared.reason.Reason.{Reason}
 use Rattle.share_base.specs.declared.reason.Reason.TheVariants as reason
 use Rattle.message_codec.specs.Verdicts as verdict
 use Rattle.synergy_share.specs.declared.status.Status.{Status}
 use Rattle.synergy_share.specs.Ways.{injecting, status_of, ending_of}
-use Rattle.synergy_share.specs.Begins.{GoesOn, HasEnd, HasBadFrame, StopsAt, IsBad}
+use Rattle.synergy_share.specs.Begins.{GoesOn, StopsAt, IsBad}
 use Rattle.synergy_share.specs.Cores as core
 
 -- a message of the server is one wherever it stands

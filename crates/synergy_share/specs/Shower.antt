@@ -1,13 +1,11 @@
 -- What the core of `show` stands for.
-use Rattle.std.specs.Prelude.{◌≡◌, ℕ, ◌+◌, List, length, Option, Some, None, false}
-use Rattle.wire_frames.specs.Framing.{IsPartial}
+use Rattle.std.specs.Prelude.{◌≡◌, ℕ, List, length, Option, Some, None, false}
 use Rattle.wire_frames.specs.Framers.{FramerParts}
 use Rattle.message_codec.specs.declared.messages.Msg.{Msg}
-use Rattle.message_codec.specs.Streams.{body_limit, frames_of}
+use Rattle.message_codec.specs.Streams.{frames_of}
 use Rattle.synergy_share.specs.declared.status.Status.{Status}
 use Rattle.synergy_share.specs.declared.show_core.ShowCore.{ShowCore}
 use Rattle.synergy_share.specs.Ways.{showing}
-use Rattle.synergy_share.specs.Begins.{StopsAt}
 use Rattle.synergy_share.specs.Cores.{Keeps}
 
 -- its framer stands at the rest

@@ -1,12 +1,11 @@
 -- What the core of `show` keeps, and what taking one frame does to it.
-use Rattle.std.specs.Prelude.{◌≡◌, ℕ, ◌++◌, List, length, Result, Ok, Err, Option, Some, None, false}
+use Rattle.std.specs.Prelude.{◌≡◌, ℕ, ◌++◌, List, length, Result, Ok, Err}
 use Rattle.wire_frames.specs.Framing.{IsPartial}
 use Rattle.wire_frames.specs.Framers.{FramerParts, moved}
 use Rattle.message_codec.specs.declared.messages.End.{End}
 use Rattle.message_codec.specs.declared.messages.Msg.{Msg}
-use Rattle.message_codec.specs.Streams.{body_limit, frame_of, frames_of}
+use Rattle.message_codec.specs.Streams.{body_limit, frame_of}
 use Rattle.share_base.specs.declared.out_of_memory.OutOfMemory.{OutOfMemory}
-use Rattle.synergy_share.specs.declared.status.Status.{Status}
 use Rattle.synergy_share.specs.declared.show_next.Taken.{Taken}
 use Rattle.synergy_share.specs.declared.show_next.Taken.TheVariants as taken
 use Rattle.synergy_share.specs.Ways.{showing, shown}

@@ -111,8 +111,8 @@ pub fn run_inject<S: Source, K: Sink>(alloc: Global, input: &mut S, out: &mut K)
     ensures released { Releases result (K.taken out.old) (K.taken out.new) }
     ensures causes { Causes result (S.faults input.old) (S.faults input.new) (K.faults out.old) (K.faults out.new) }
 {
-    match ClientCore::injecting(alloc) {
-        Ok(core) => run_over(core, input, out),
-        Err(OutOfMemory) => unreachable!(),
-    }
+    let Ok(core) = ClientCore::injecting(alloc) else {
+        unreachable!()
+    };
+    run_over(core, input, out)
 }

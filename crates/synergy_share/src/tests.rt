@@ -1,0 +1,294 @@
+ghost use Rattle.std.specs.Prelude.{◌≤◌, IfOk};
+
+use super::*;
+use client_core::LostCause;
+use message_codec::End;
+use share_base::{
+    MemorySink, MemorySource, OutOfMemory, Reason, Sink, SinkAnswer, Source, SourceAnswer,
+};
+use std::alloc::Global;
+use std::io;
+use std::io::Read;
+use std::test::*;
+
+const ENTER: [u8; 18] = *b"\x00\x00\x00\x0eCINN\x00\x00\x01\x80\x00\x00\x00\x01\x00\x00";
+
+const LEAVE: [u8; 8] = *b"\x00\x00\x00\x04COUT";
+
+const KEY: [u8; 14] = *b"\x00\x00\x00\x0aDKDN\x00\x61\x00\x00\x00\x26";
+
+const BUTTON: [u8; 9] = *b"\x00\x00\x00\x05DMDN\x03";
+
+const BYE: [u8; 8] = *b"\x00\x00\x00\x04CBYE";
+
+const CLIPBOARD: [u8; 19] = *b"\x00\x00\x00\x0fDCLP\x00\x00\x00\x00\x00\x01\x00\x00\x00\x015";
+
+const HELLO: [u8; 22] = *b"\x00\x00\x00\x12Synergy\x00\x01\x00\x06\x00\x00\x00\x03pad";
+
+const TOO_LONG: [u8; 4] = *b"\x00\x40\x00\x01";
+
+/// What is read, at which calls the sink fails, and what must come of it.
+#[derive(Drop)]
+struct Row<'a> {
+    command: Command,
+    parts: &'a [&'a [u8]],
+    failing: &'a [u64],
+    lines: &'a [u8],
+    status: Status,
+}
+
+fn passes(alloc: Global, row: &Row) -> Result<bool, OutOfMemory> {
+    let mut bytes = Vec::new(alloc);
+    for part in row.parts {
+        bytes.extend_from_slice(part)?;
+    }
+    let mut input = MemorySource::new(alloc, &bytes, &[])?;
+    let mut out = MemorySink::new(alloc, 1000, row.failing)?;
+    let status = match row.command {
+        Command::Inject => run_inject(alloc, &mut input, &mut out),
+        Command::Show(end) => run_show(alloc, end, &mut input, &mut out),
+    };
+    Ok(status == row.status && out.bytes() == row.lines)
+}
+
+#[test]
+fn injection_ends_as_its_server_does(rt: HostRuntime) {
+    let rows = [
+        Row {
+            command: Command::Inject,
+            parts: &[],
+            failing: &[],
+            lines: b"",
+            status: Status::Lost(LostCause::Ended),
+        },
+        Row {
+            command: Command::Inject,
+            parts: &[&BYE, &[255; 4]],
+            failing: &[],
+            lines: b"",
+            status: Status::Ok,
+        },
+        Row {
+            command: Command::Inject,
+            parts: &[&ENTER, &CLIPBOARD],
+            failing: &[],
+            lines: b"enter 0 384 1 0\n",
+            status: Status::NotYet { place: 18 },
+        },
+        Row {
+            command: Command::Inject,
+            parts: &[&ENTER, &[0, 0]],
+            failing: &[],
+            lines: b"enter 0 384 1 0\n",
+            status: Status::BadFrames {
+                place: 18,
+                reason: Reason::Cut,
+            },
+        },
+        Row {
+            command: Command::Inject,
+            parts: &[&ENTER, &TOO_LONG],
+            failing: &[],
+            lines: b"enter 0 384 1 0\n",
+            status: Status::BadFrames {
+                place: 18,
+                reason: Reason::TooLong,
+            },
+        },
+    ];
+    for row in &rows {
+        assert_eq!(rt; passes(rt.alloc(), row), Ok(true));
+    }
+}
+
+#[test]
+fn injection_lets_go_at_every_end(rt: HostRuntime) {
+    let rows = [
+        Row {
+            command: Command::Inject,
+            parts: &[&ENTER, &KEY, &BUTTON, &LEAVE, &BYE],
+            failing: &[],
+            lines: b"enter 0 384 1 0\nkey down 97 38 0\nbutton down 3\nkey up 97 38\nbutton up 3\nleave\n",
+            status: Status::Ok,
+        },
+        Row {
+            command: Command::Inject,
+            parts: &[&ENTER, &KEY, &BUTTON],
+            failing: &[],
+            lines: b"enter 0 384 1 0\nkey down 97 38 0\nbutton down 3\nkey up 97 38\nbutton up 3\n",
+            status: Status::Lost(LostCause::Ended),
+        },
+        Row {
+            command: Command::Inject,
+            parts: &[&ENTER, &KEY, &BUTTON],
+            failing: &[1],
+            lines: b"",
+            status: Status::WriteFault,
+        },
+        Row {
+            command: Command::Inject,
+            parts: &[&ENTER, &KEY, &BUTTON],
+            failing: &[2],
+            lines: b"enter 0 384 1 0\nkey down 97 38 0\nbutton down 3\n",
+            status: Status::WriteFault,
+        },
+    ];
+    for row in &rows {
+        assert_eq!(rt; passes(rt.alloc(), row), Ok(true));
+    }
+}
+
+#[test]
+fn messages_are_shown_in_order(rt: HostRuntime) {
+    let rows = [
+        Row {
+            command: Command::Show(End::Server),
+            parts: &[],
+            failing: &[],
+            lines: b"",
+            status: Status::Ok,
+        },
+        Row {
+            command: Command::Show(End::Client),
+            parts: &[&HELLO, &TOO_LONG],
+            failing: &[],
+            lines: b"Synergy 1 6 706164\n",
+            status: Status::BadFrames {
+                place: 22,
+                reason: Reason::TooLong,
+            },
+        },
+        Row {
+            command: Command::Show(End::Server),
+            parts: &[&LEAVE, &BYE, &LEAVE],
+            failing: &[],
+            lines: b"COUT\nCBYE\nCOUT\n",
+            status: Status::Ok,
+        },
+        Row {
+            command: Command::Show(End::Server),
+            parts: &[&LEAVE, &[0, 0, 0, 4, b'C']],
+            failing: &[],
+            lines: b"COUT\n",
+            status: Status::BadFrames {
+                place: 8,
+                reason: Reason::Cut,
+            },
+        },
+        Row {
+            command: Command::Show(End::Client),
+            parts: &[&ENTER],
+            failing: &[],
+            lines: b"",
+            status: Status::BadFrames {
+                place: 0,
+                reason: Reason::End,
+            },
+        },
+        Row {
+            command: Command::Show(End::Server),
+            parts: &[&LEAVE],
+            failing: &[1],
+            lines: b"",
+            status: Status::WriteFault,
+        },
+    ];
+    for row in &rows {
+        assert_eq!(rt; passes(rt.alloc(), row), Ok(true));
+    }
+}
+
+#[test]
+fn a_failed_read_keeps_the_lines(rt: HostRuntime) -> Result<(), Fail> {
+    let mut input = MemorySource::new(rt.alloc(), &ENTER, &[2])?;
+    let mut out = MemorySink::new(rt.alloc(), 1000, &[])?;
+    let status = run_inject(rt.alloc(), &mut input, &mut out);
+    assert_eq!(rt; status, Status::ReadFault);
+    assert_eq!(rt; out.bytes(), b"enter 0 384 1 0\n".as_slice());
+    Ok(())
+}
+
+#[test]
+fn statuses_have_a_code_and_a_line(rt: HostRuntime) {
+    let bad = Status::BadFrames {
+        place: 22,
+        reason: Reason::TooLong,
+    };
+    assert_eq!(rt; bad.code(), 1);
+    assert_eq!(rt; bad.report().as_slice(), b"frames 22 toolong\n".as_slice());
+    let held = Status::NotYet { place: 18 };
+    assert_eq!(rt; held.code(), 10);
+    assert_eq!(rt; held.report().as_slice(), b"not yet 18\n".as_slice());
+    let lost = Status::Lost(LostCause::Ended);
+    assert_eq!(rt; lost.code(), 9);
+    assert_eq!(rt; lost.report().as_slice(), b"lost ended\n".as_slice());
+    assert_eq!(rt; Status::Ok.report().as_slice(), b"".as_slice());
+}
+
+#[test]
+fn words_name_a_command_or_none(rt: HostRuntime) -> Result<(), Fail> {
+    for (word, status) in [
+        ("inject", Status::Lost(LostCause::Ended)),
+        ("show", Status::Usage),
+        ("--help", Status::Usage),
+    ] {
+        let mut input = MemorySource::new(rt.alloc(), &[], &[])?;
+        let mut out = MemorySink::new(rt.alloc(), 0, &[])?;
+        let words = vec![in rt.alloc(); String::from_str(rt.alloc(), word)?]?;
+        assert_eq!(rt; run(rt.alloc(), &words, &mut input, &mut out), status);
+    }
+    for (word, status) in [
+        ("server", Status::Ok),
+        ("client", Status::Ok),
+        ("both", Status::Usage),
+    ] {
+        let mut input = MemorySource::new(rt.alloc(), &[], &[])?;
+        let mut out = MemorySink::new(rt.alloc(), 0, &[])?;
+        let show = String::from_str(rt.alloc(), "show")?;
+        let words = vec![in rt.alloc(); show, String::from_str(rt.alloc(), word)?]?;
+        assert_eq!(rt; run(rt.alloc(), &words, &mut input, &mut out), status);
+    }
+    Ok(())
+}
+
+/// A reader and a writer that are interrupted before they give or take a byte.
+#[derive(Drop)]
+struct Interrupted {
+    times: u32,
+}
+
+impl Interrupted {
+    fn next(&mut self, len: usize) -> io::Result<usize>
+        ensures { IfOk result (λ n. n ≤ len) }
+    {
+        if self.times == 0 {
+            return Ok(len);
+        }
+        self.times -= 1;
+        Err(io::Error::from(ErrorKind::Interrupted))
+    }
+}
+
+impl Read for Interrupted {
+    fn read(&mut self, buf: &mut [u8]) -> io::Result<usize> {
+        self.next(buf.len())
+    }
+}
+
+impl Write for Interrupted {
+    fn write(&mut self, bytes: &[u8]) -> io::Result<usize> {
+        self.next(bytes.len())
+    }
+
+    fn flush(&mut self) -> io::Result<()> {
+        Ok(())
+    }
+}
+
+#[test]
+fn an_interruption_is_no_fault(rt: HostRuntime) {
+    let mut source = StdSource::new(Interrupted { times: 3 });
+    assert_eq!(rt; source.read(&mut [0]), SourceAnswer::Got(1));
+    let mut sink = StdSink::new(Interrupted { times: 3 });
+    assert_eq!(rt; sink.write(b"a"), SinkAnswer::Took(1));
+}

@@ -1,13 +1,9 @@
-use Rattle.std.proofs.Common.{◌≡◌, ◌<◌, ◌≤◌, ◌+◌, ◌-◌, ◌++◌, ℕ, List, [], length, take, min, refl, subst, sym, ap, ◌∙◌, arith}
+use Rattle.std.proofs.Common.{◌+◌, ◌++◌, ℕ, List, [], take, refl, subst, sym, ◌∙◌, arith}
 use Rattle.share_base.specs.Told.{NotSet}
 use Rattle.message_codec.specs.declared.messages.Msg.{Msg}
-use Rattle.synergy_share.specs.declared.status.Status.{Status}
-use Rattle.synergy_share.specs.declared.status.Status.TheVariants as status
 use Rattle.synergy_share.specs.Ways.{Way}
-use Rattle.synergy_share.specs.Cores.{Keeps, Further}
-use Rattle.synergy_share.specs.Commands.{Reads, Stops}
-use Rattle.synergy_share.specs.Causes.{Causes}
-use Rattle.synergy_share.proofs.Runs.{At, Stands, Gives, stands_new, stands_read, stands_written, feed_fits, partial_of, stops_here, reads_write_fault, finished_fault, finished_end, finished_memory, finished_stop, finished_limit, causes_finished, by_bytes_of, fine_by_bytes, source_by_bytes, printed_as}
+use Rattle.synergy_share.specs.Cores.{Further}
+use Rattle.synergy_share.proofs.Runs.{Stands, Gives, stands_new, stands_read, stands_written, feed_fits, partial_of, stops_here, reads_write_fault, finished_fault, finished_end, finished_memory, finished_stop, finished_limit, printed_as, further_as}
 use Rattle.synergy_share.proofs.commands.run_over.Goals as goal
 
 pub loop-total-init : goal.loop-total-init
@@ -95,7 +91,7 @@ returns-then-not-write_all-clause-reads g c =
     let piece : List ℕ = take c.min-kept.result c.read.new.buf in
     let gives : Gives (left l.input) (left c.read.new.self) l.total c.in-Got.n c.min-kept.result c.read.new.buf = record { gives = c.in-Got.ensures.gives; fits = omega (arith, c.in-Got.ensures.fits, c.read.auto.buf); within = c.loop-total-test.true; kept_is = c.min-kept.ensures } in
     let fed = c.in-Err.ensures.err at.messages at.rest at.written at.kept in
-    let further : Further w at.rest piece = subst (λ (q : Way). Further q at.rest piece) l.invariant.way fed.0 in
+    let further : Further w at.rest piece = further_as w (core.way l.core) l.invariant.way at.rest piece fed.0 in
     let more : List Msg = at.messages ++ fed.0.more in
     reads_write_fault w (core.lines c.feed.new.self) c.printed.result.now (l.total + c.in-Got.n) (left c.args.input.now) (left c.read.new.self) (taken c.args.out.now) (taken l.out) (taken c.write_all.new.out) (g.S.Source.ended c.read.new.self) more fed.0.rest' at.written
     (stands_read w l.total c.in-Got.n c.min-kept.result c.read.new.buf (left c.args.input.now) (left l.input) (left c.read.new.self) (taken c.args.out.now) (taken l.out) at.messages at.rest at.written at.stands gives further) (printed_as w (core.way c.feed.new.self) (c.feed.ensures.way ∙ l.invariant.way) (core.lines c.feed.new.self) more at.written (laws.prints c.feed.new.self more at.written fed.1)) c.printed.ensures c.if-not-write_all.ensures.taken
@@ -124,7 +120,7 @@ returns-in-Err-clause-reads g c =
     let piece : List ℕ = take c.min-kept.result c.read.new.buf in
     let gives : Gives (left l.input) (left c.read.new.self) l.total c.in-Got.n c.min-kept.result c.read.new.buf = record { gives = c.in-Got.ensures.gives; fits = omega (arith, c.in-Got.ensures.fits, c.read.auto.buf); within = c.loop-total-test.true; kept_is = c.min-kept.ensures } in
     let fed = c.in-Err.ensures.err at.messages at.rest at.written at.kept in
-    let further : Further w at.rest piece = subst (λ (q : Way). Further q at.rest piece) l.invariant.way fed.0 in
+    let further : Further w at.rest piece = further_as w (core.way l.core) l.invariant.way at.rest piece fed.0 in
     let more : List Msg = at.messages ++ fed.0.more in
     let written : List ℕ = at.written ++ core.lines c.feed.new.self in
     let heard = c.clear_printed.ensures.heard more at.written fed.1 in
@@ -155,7 +151,7 @@ returns-then-not-write_all-2-clause-reads g c =
     let piece : List ℕ = take c.min-kept.result c.read.new.buf in
     let gives : Gives (left l.input) (left c.read.new.self) l.total c.in-Got.n c.min-kept.result c.read.new.buf = record { gives = c.in-Got.ensures.gives; fits = omega (arith, c.in-Got.ensures.fits, c.read.auto.buf); within = c.loop-total-test.true; kept_is = c.min-kept.ensures } in
     let fed = c.in-Ok.ensures.ok at.messages at.rest at.written at.kept in
-    let further : Further w at.rest piece = subst (λ (q : Way). Further q at.rest piece) l.invariant.way fed.0 in
+    let further : Further w at.rest piece = further_as w (core.way l.core) l.invariant.way at.rest piece fed.0 in
     let more : List Msg = at.messages ++ fed.0.more in
     reads_write_fault w (core.lines c.feed.new.self) c.printed-in-Ok.result.now (l.total + c.in-Got.n) (left c.args.input.now) (left c.read.new.self) (taken c.args.out.now) (taken l.out) (taken c.write_all-in-Ok.new.out) (g.S.Source.ended c.read.new.self) more fed.0.rest' at.written
     (stands_read w l.total c.in-Got.n c.min-kept.result c.read.new.buf (left c.args.input.now) (left l.input) (left c.read.new.self) (taken c.args.out.now) (taken l.out) at.messages at.rest at.written at.stands gives further) (printed_as w (core.way c.feed.new.self) (c.feed.ensures.way ∙ l.invariant.way) (core.lines c.feed.new.self) more at.written (laws.prints c.feed.new.self more at.written (laws.hears c.feed.new.self more fed.0.rest' at.written fed.1))) c.printed-in-Ok.ensures c.if-not-write_all-2.ensures.taken
@@ -184,7 +180,7 @@ returns-in-Some-clause-reads g c =
     let piece : List ℕ = take c.min-kept.result c.read.new.buf in
     let gives : Gives (left l.input) (left c.read.new.self) l.total c.in-Got.n c.min-kept.result c.read.new.buf = record { gives = c.in-Got.ensures.gives; fits = omega (arith, c.in-Got.ensures.fits, c.read.auto.buf); within = c.loop-total-test.true; kept_is = c.min-kept.ensures } in
     let fed = c.in-Ok.ensures.ok at.messages at.rest at.written at.kept in
-    let further : Further w at.rest piece = subst (λ (q : Way). Further q at.rest piece) l.invariant.way fed.0 in
+    let further : Further w at.rest piece = further_as w (core.way l.core) l.invariant.way at.rest piece fed.0 in
     let more : List Msg = at.messages ++ fed.0.more in
     let written : List ℕ = at.written ++ core.lines c.feed.new.self in
     let kept = c.clear_printed-in-Ok.ensures.kept more fed.0.rest' at.written fed.1 in
@@ -215,7 +211,7 @@ loop-total-preserved g c =
     let piece : List ℕ = take c.min-kept.result c.read.new.buf in
     let gives : Gives (left l.input) (left c.read.new.self) l.total c.in-Got.n c.min-kept.result c.read.new.buf = record { gives = c.in-Got.ensures.gives; fits = omega (arith, c.in-Got.ensures.fits, c.read.auto.buf); within = c.loop-total-test.true; kept_is = c.min-kept.ensures } in
     let fed = c.in-Ok.ensures.ok at.messages at.rest at.written at.kept in
-    let further : Further w at.rest piece = subst (λ (q : Way). Further q at.rest piece) l.invariant.way fed.0 in
+    let further : Further w at.rest piece = further_as w (core.way l.core) l.invariant.way at.rest piece fed.0 in
     let more : List Msg = at.messages ++ fed.0.more in
     let written : List ℕ = at.written ++ core.lines c.feed.new.self in
     let kept = c.clear_printed-in-Ok.ensures.kept more fed.0.rest' at.written fed.1 in
@@ -240,6 +236,5 @@ returns-clause-reads g c =
     let taken = g.K.Sink.taken in
     let at = l.invariant.at in
     let w = core.way c.args.core in
-    finished_limit w (core.way l.core) l.invariant.way c.finish-3.result l.total (left c.args.input.now) (left l.input) (taken c.args.out.now) (taken l.out) (taken c.finish-3.new.out) (g.S.Source.ended l.input) at.messages at.rest at.written (core.lines l.core) (g.K.Sink.faults l.out) (g.K.Sink.faults c.finish-3.new.out)
-    at.stands (laws.prints l.core at.messages at.written (laws.hears l.core at.messages at.rest at.written at.kept)) l.invariant.empty (partial_of (core.way l.core) (core.lines l.core) (core.done l.core) (core.total l.core) at.messages at.rest at.written l.invariant.goes (laws.keeps l.core at.messages at.rest at.written at.kept)) c.loop-total-test.false (c.finish-3.ensures at.messages at.written (laws.hears l.core at.messages at.rest at.written at.kept))
-
+    finished_limit w (core.way l.core) l.invariant.way c.finish-2.result l.total (left c.args.input.now) (left l.input) (taken c.args.out.now) (taken l.out) (taken c.finish-2.new.out) (g.S.Source.ended l.input) at.messages at.rest at.written (core.lines l.core) (g.K.Sink.faults l.out) (g.K.Sink.faults c.finish-2.new.out)
+    at.stands (laws.prints l.core at.messages at.written (laws.hears l.core at.messages at.rest at.written at.kept)) l.invariant.empty (partial_of (core.way l.core) (core.lines l.core) (core.done l.core) (core.total l.core) at.messages at.rest at.written l.invariant.goes (laws.keeps l.core at.messages at.rest at.written at.kept)) c.loop-total-test.false (c.finish-2.ensures at.messages at.written (laws.hears l.core at.messages at.rest at.written at.kept))

@@ -1,9 +1,7 @@
-use Rattle.std.proofs.Common.{◌≡◌, List, ℕ, ◌+◌, ◌++◌, Result, Ok, Err, refl, sym, subst, length}
+use Rattle.std.proofs.Common.{◌+◌, Result, Ok, Err, refl, sym, subst, length}
 use Rattle.std.specs.Prelude.{OnErr}
 use Rattle.wire_frames.specs.Framing.{IsPartial}
 use Rattle.wire_frames.specs.Framers.{FramerParts}
-use Rattle.message_codec.specs.declared.messages.Msg.{Msg}
-use Rattle.synergy_share.specs.Shower.{Shown}
 use Rattle.synergy_share.proofs.Showing.{gone_fed, gone_one, gone_same, gone_unfed, err_of, shown_more, shown_stop}
 use Rattle.synergy_share.proofs.show_core.ShowCoreLineCore.feed.Goals as goal
 
@@ -26,7 +24,7 @@ pub returns-in_err-end-clause-err : goal.returns-in_err-end-clause-err
 returns-in_err-end-clause-err c =
     let l = c.loop-end in
     on_err c.from_residual-in_err-end.result _ (λ messages rest taken k.
-      err_of c.args.self.now.from l.self.from (sym l.invariant.from) l.self.framer l.self.lines c.show_next.new.lines l.self.place l.self.total messages rest c.args.piece.now taken (l.invariant.gone messages rest taken k) c.in_err-end.ensures.shows)
+    err_of c.args.self.now.from l.self.from (sym l.invariant.from) l.self.framer l.self.lines c.show_next.new.lines l.self.place l.self.total messages rest c.args.piece.now taken (l.invariant.gone messages rest taken k) c.in_err-end.ensures.shows)
 
 pub loop-end-preserved : goal.loop-end-preserved
 loop-end-preserved c =
