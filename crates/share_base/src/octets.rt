@@ -46,6 +46,13 @@ impl Octets {
         Ok(())
     }
 
+    /// Takes all bytes away, and keeps the memory.
+    pub fn clear(&mut self)
+        ensures { self.new ≡ [] }
+    {
+        self.bytes.clear();
+    }
+
     /// The bytes, first to last.
     pub fn as_slice(&self) -> &[u8]
         ensures { result.now ≡ self.now }

@@ -1,6 +1,6 @@
-pub mod Frames
+pub mod SingleWords
 pub mod Streams
+pub mod Showing
 pub mod Runs
 pub mod OneSplit
-pub mod SingleWords
-pub mod Unread
+pub mod Injection

@@ -1,112 +1,27 @@
--- Going over a stream, message by message, as it is read.
-use Rattle.std.proofs.Common.{◌≡◌, ◌≢◌, ℕ, ◌+◌, ◌-◌, ◌^◌, ◌<◌, ◌≤◌, Bool, false, cond, Some, None, List, [], ◌∷◌, ◌++◌, length, take, Option, min, refl, sym, ap, subst, ◌∙◌, add-zero, arith, inl, inr}
-use Rattle.std.proofs.lemmas.Grind.{flat_map-append}
-use Rattle.std.proofs.lemmas.List.{length-append, length-take, take_all, take-take, nil_from_length}
+-- Running a command over what is read: where it stands before a read, and how each end follows.
+use Rattle.std.proofs.Common.{◌≡◌, ◌≢◌, ℕ, ◌+◌, ◌-◌, ◌^◌, ◌<◌, ◌≤◌, Bool, Some, None, List, [], ◌++◌, length, take, Option, min, ◌⊎◌, refl, sym, ap, subst, ◌∙◌, arith, inl, inr, append_assoc}
+use Rattle.std.proofs.lemmas.List.{length-append, append-nil, length-take, take_all, take-take, take-append-le}
 use Rattle.std.proofs.lemmas.Bool.{cases_lt}
 use Rattle.std.proofs.Math.Seq.{take-append-add}
-use Rattle.share_base.specs.Told.{before, after, NoneLeft, IsSet}
+use Rattle.share_base.specs.Counts.{Rises}
+use Rattle.share_base.specs.Told.{before, after, NoneLeft, IsSet, NotSet}
 use Rattle.share_base.specs.Reading.{ReadGives, ReadEnds}
-use Rattle.share_base.specs.declared.source.SourceAnswer.TheVariants as read
+use Rattle.share_base.specs.declared.source.SourceAnswer.TheVariants as answer
 use Rattle.share_base.specs.Writing.{TakesFront}
 use Rattle.share_base.proofs.ToldLists.{after-after, after-nil, before-before, before-nil}
 use Rattle.wire_frames.specs.Framing.{IsPartial}
-use Rattle.wire_frames.specs.Framers.{FramerParts, fed, moved}
 use Rattle.message_codec.specs.declared.messages.Msg.{Msg}
-use Rattle.message_codec.specs.Streams.{body_limit, frame_of, frames_of}
+use Rattle.message_codec.specs.Streams.{body_limit, frames_of}
 use Rattle.synergy_share.specs.declared.status.Status.{Status}
 use Rattle.synergy_share.specs.declared.status.Status.TheVariants as status
-use Rattle.synergy_share.specs.declared.status.LostCause.TheVariants as lost
-use Rattle.synergy_share.specs.Printed.{line_of, lines_of}
-use Rattle.synergy_share.specs.Injecting.{input_limit, Begins, AtEnd, EndsAt, Writes, Injects}
-use Rattle.synergy_share.specs.Draining.{PrintsOne, EndsOne, Went, StopsAt, WentTo}
-use Rattle.synergy_share.proofs.Streams.{flat_map-last, length-frames_of, begins_none, begins_more, begins_one, begins_fed}
+use Rattle.synergy_share.specs.Ways.{Way}
+use Rattle.synergy_share.specs.Begins.{Begins, StopsAt}
+use Rattle.synergy_share.specs.Cores.{Printed, StandsAt, Keeps, Further, EndsHere, IsByBytes, Finishes}
+use Rattle.synergy_share.specs.Commands.{input_limit, EndsAt, by_frame, at_the_end, too_long, read_fault, write_fault, no_memory, all_lines, Writes, Reads, Stops}
+use Rattle.synergy_share.specs.Causes.{Causes, SourceCounts, SinkCounts}
+use Rattle.synergy_share.proofs.Streams.{begins_none, begins_fed}
 
--- ---- lines that were written
-
-lines_more : (ms ns : List Msg) (t u v : Option (List ℕ)) → u ≡ after t (lines_of ms) → v ≡ after u (lines_of ns) → v ≡ after t (lines_of (ms ++ ns))
-lines_more ms ns t u v first second = second ∙ ap (λ (o : Option (List ℕ)). after o (lines_of ns)) first ∙ after-after t (lines_of ms) (lines_of ns) ∙ ap (after t) (sym (flat_map-append line_of ms ns))
-
--- after a whole text a front of the next was written
-front_after : (whole next both : List ℕ) (t u v : Option (List ℕ)) → both ≡ whole ++ next → u ≡ after t whole → TakesFront next u v → TakesFront both t v
-front_after whole next both t u v both_is first second = (
-  length whole + second.0,
-  omega (arith, second.1, ap length both_is, length-append whole next),
-  second.2 ∙ ap (λ (o : Option (List ℕ)). after o (take second.0 next)) first ∙ after-after t whole (take second.0 next)
-      ∙ ap (after t) (sym (take-append-add whole next second.0) ∙ ap (take (length whole + second.0)) (sym both_is)),
-)
-
--- ---- steps
-
-pub went_none : (f : FramerParts) (told : Option (List ℕ)) → Went [] f f told told
-went_none f told = record {
-  begins = begins_none f.rest;
-  moved = ap (λ (n : ℕ). record { given = n; rest = f.rest; limit = f.limit; over = f.over }) (sym (add-zero f.given));
-  written = sym (after-nil told);
-}
-
-pub went_more : (ms : List Msg) (f g h : FramerParts) (t u v : Option (List ℕ)) (end : ℕ) → Went ms f g t u → (p : PrintsOne end g h u v) → Went (ms ++ p.message ∷ []) f h t v
-went_more ms f g h t u v end w p =
-    let a : List ℕ = frames_of ms in
-    let b : List ℕ = frame_of p.message in
-    let both : frames_of (ms ++ p.message ∷ []) ≡ a ++ b = flat_map-last frame_of ms p.message in
-    let sums : f.given + length a + length b ≡ f.given + length (frames_of (ms ++ p.message ∷ [])) = omega (arith, ap length both, length-append a b) in
-    record {
-      begins = begins_one ms p.message f.rest g.rest h.rest w.begins p.going p.front;
-      moved = p.moved ∙ ap (λ (x : FramerParts). moved x (length b) h.rest) w.moved ∙ ap (λ (n : ℕ). record { given = n; rest = h.rest; limit = f.limit; over = f.over }) sums;
-      written = p.written ∙ ap (λ (o : Option (List ℕ)). after o (line_of p.message)) w.written ∙ after-after t (lines_of ms) (line_of p.message) ∙ ap (after t) (sym (flat_map-last line_of ms p.message));
-    }
-
-went_given : (ms : List Msg) (f g : FramerParts) (t u : Option (List ℕ)) → Went ms f g t u → g.given ≡ f.given + length (frames_of ms)
-went_given ms f g t u w = ap (λ (x : FramerParts). x.given) w.moved
-
-pub went_ends : (end : Status) (ms : List Msg) (f g : FramerParts) (t u v : Option (List ℕ)) → Went ms f g t u → EndsOne end g u v → WentTo end f t v
-went_ends status.Ok ms f g t u v w e = record { messages = ms; rest = g.rest; begins = w.begins; ending = e.0; writes = e.1 ∙ w.written }
-went_ends (status.NotYet place) ms f g t u v w e = record { messages = ms; rest = g.rest; begins = w.begins; ending = (e.0 ∙ went_given ms f g t u w, e.1); writes = e.2 ∙ w.written }
-went_ends status.OutOfMemory ms f g t u v w e = record { messages = ms; rest = g.rest; begins = w.begins; ending = tt; writes = e ∙ w.written }
-went_ends status.WriteFault ms f g t u v w e = record {
-  messages = ms ++ e.message ∷ [];
-  rest = e.rest;
-  begins = begins_one ms e.message f.rest g.rest e.rest w.begins e.going e.front;
-  ending = tt;
-  writes = front_after (lines_of ms) (line_of e.message) (lines_of (ms ++ e.message ∷ [])) t u v (flat_map-last line_of ms e.message) w.written e.written;
-}
-went_ends (status.Lost cause) ms f g t u v w e = absurd e
-went_ends status.InputTooLong ms f g t u v w e = absurd e
-went_ends status.ReadFault ms f g t u v w e = absurd e
-went_ends status.Usage ms f g t u v w e = absurd e
-
--- ---- reading
-
--- what was read, and written of it; the framer keeps what is left over
-pub record Fed (left left' taken taken' : Option (List ℕ)) (f : FramerParts) (total : ℕ) : Type 0 where
-  pub read : List ℕ
-  pub consumed : left ≡ before read left'
-  pub total_is : total ≡ length read
-  pub messages : List Msg
-  pub begins : Begins messages (take input_limit read) f.rest
-  pub given : f.given ≡ length (frames_of messages)
-  pub written : taken' ≡ after taken (lines_of messages)
-
--- the same, and no whole frame is left over
-pub record Reads (left left' taken taken' : Option (List ℕ)) (f : FramerParts) (total end : ℕ) : Type 0 where
-  pub fed : Fed left left' taken taken' f total
-  pub partial : IsPartial body_limit f.rest
-  pub end_is : end ≡ f.given
-
-pub reads_none : (left taken : Option (List ℕ)) (f : FramerParts) → f.rest ≡ [] → f.given ≡ 0 → Reads left left taken taken f 0 0
-reads_none left taken f none nothing = record {
-  fed = record {
-    read = [];
-    consumed = sym (before-nil left);
-    total_is = refl;
-    messages = [];
-    begins = record { stream_is = sym none; going = tt };
-    given = nothing;
-    written = sym (after-nil taken);
-  };
-  partial = inl (omega (arith, ap length none));
-  end_is = sym nothing;
-}
+-- ---- pieces
 
 -- a front of a front
 front_of_front : (n k : ℕ) (xs : List ℕ) → n ≤ length xs → take k (take n xs) ≡ take (min n k) xs
@@ -124,164 +39,309 @@ take-piece limit n read buffer le fits =
     ∙ ap (λ (t : List ℕ). read ++ t) (front_of_front n (limit - length read) buffer fits)
     ∙ ap (λ (t : List ℕ). t ++ take (min n (limit - length read)) buffer) (sym (take_all limit read le))
 
--- a piece came: how much was read, and what the framer keeps of it
-pub record Feeds (left left' : Option (List ℕ)) (old new : FramerParts) (total n : ℕ) (buffer : List ℕ) : Type 0 where
+-- ---- before a read
+
+-- what was read, its messages and its rest, and the lines that were written
+pub record Stands (w : Way) (total : ℕ) (left left' taken taken' : Option (List ℕ)) (messages : List Msg) (rest written : List ℕ) : Type 0 where
+  pub read : List ℕ
+  pub consumed : left ≡ before read left'
+  pub total_is : total ≡ length read
+  pub begins : Begins w messages (take input_limit read) rest
+  pub taken_is : taken' ≡ after taken written
+
+pub stands_new : (w : Way) (left taken : Option (List ℕ)) → Stands w 0 left left taken taken [] [] []
+stands_new w left taken = record {
+  read = [];
+  consumed = sym (before-nil left);
+  total_is = refl;
+  begins = begins_none w [];
+  taken_is = sym (after-nil taken);
+}
+
+-- where the command stands before a read, in the words of its core
+pub record At (w : Way) (keeps : List Msg → List ℕ → List ℕ → Type 0) (total : ℕ) (left left' taken taken' : Option (List ℕ)) : Type 0 where
+  pub messages : List Msg
+  pub rest : List ℕ
+  pub written : List ℕ
+  pub kept : keeps messages rest written
+  pub stands : Stands w total left left' taken taken' messages rest written
+
+-- a read gave so many bytes, of which so many count
+pub record Gives (left left' : Option (List ℕ)) (total n kept : ℕ) (buffer : List ℕ) : Type 0 where
   pub gives : left ≡ before (take n buffer) left'
   pub fits : n ≤ length buffer
   pub within : total ≤ input_limit
-  pub given : new.given ≡ old.given
-  pub rest : new.rest ≡ old.rest ++ take (min n (input_limit - total)) buffer
+  pub kept_is : kept ≡ min n (input_limit - total)
 
-pub reads_fed : (left l l' taken taken' : Option (List ℕ)) (f g : FramerParts) (total end n : ℕ) (buffer : List ℕ) → Reads left l taken taken' f total end → Feeds l l' f g total n buffer → Fed left l' taken taken' g (total + n)
-reads_fed left l l' taken taken' f g total end n buffer reads p =
-    let r = reads.fed in
+-- its messages follow
+pub stands_read : (w : Way) (total n kept : ℕ) (buffer : List ℕ) (left l l' taken taken' : Option (List ℕ)) (messages : List Msg) (rest written : List ℕ) → Stands w total left l taken taken' messages rest written → Gives l l' total n kept buffer
+    → (f : Further w rest (take kept buffer)) → Stands w (total + n) left l' taken taken' (messages ++ f.more) f.rest' written
+stands_read w total n kept buffer left l l' taken taken' messages rest written s g f =
     let piece : List ℕ = take n buffer in
-    let kept : List ℕ = take (min n (input_limit - total)) buffer in
-    let len : length piece ≡ n = omega (arith, length-take n buffer, p.fits) in
-    let counted : take input_limit (r.read ++ piece) ≡ take input_limit r.read ++ kept =
-    take-piece input_limit n r.read buffer (omega (arith, r.total_is, p.within)) p.fits ∙ ap (λ (m : ℕ). take input_limit r.read ++ take (min n (input_limit - m)) buffer) (sym r.total_is) in
-    let begun = begins_fed r.messages (take input_limit r.read) f.rest kept r.begins in
+    let long : length piece ≡ n = omega (arith, length-take n buffer, g.fits) in
+    let few : min n (input_limit - length s.read) ≡ kept = omega (arith, g.kept_is, s.total_is) in
+    let stream : take input_limit (s.read ++ piece) ≡ take input_limit s.read ++ take kept buffer =
+    take-piece input_limit n s.read buffer (omega (arith, s.total_is, g.within)) g.fits ∙ ap (λ (m : ℕ). take input_limit s.read ++ take m buffer) few in
     record {
-      read = r.read ++ piece;
-      consumed = r.consumed ∙ ap (before r.read) p.gives ∙ before-before l' r.read piece;
-      total_is = omega (arith, r.total_is, len, length-append r.read piece);
-      messages = r.messages;
-      begins = subst (λ (s : List ℕ). Begins r.messages s g.rest) (sym counted) (subst (λ (t : List ℕ). Begins r.messages (take input_limit r.read ++ kept) t) (sym p.rest) begun);
-      given = p.given ∙ r.given;
-      written = r.written;
+      read = s.read ++ piece;
+      consumed = s.consumed ∙ ap (before s.read) g.gives ∙ before-before l' s.read piece;
+      total_is = omega (arith, s.total_is, long, length-append s.read piece);
+      begins = subst (λ (t : List ℕ). Begins w (messages ++ f.more) t f.rest') (sym stream) (begins_fed w messages (take input_limit s.read) rest (take kept buffer) s.begins f);
+      taken_is = s.taken_is;
     }
 
--- the next piece was gone over whole
-pub reads_more : (left l' t u v : Option (List ℕ)) (g h : FramerParts) (total end : ℕ) (ns : List Msg) → Fed left l' t u g total → Went ns g h u v → IsPartial body_limit h.rest → end ≡ h.given → Reads left l' t v h total end
-reads_more left l' t u v g h total end ns d w partial end_is = record {
-  fed = record {
-    read = d.read;
-    consumed = d.consumed;
-    total_is = d.total_is;
-    messages = d.messages ++ ns;
-    begins = begins_more d.messages ns (take input_limit d.read) g.rest h.rest d.begins w.begins;
-    given = went_given ns g h u v w ∙ ap (λ (n : ℕ). n + length (frames_of ns)) d.given ∙ sym (length-frames_of d.messages ns);
-    written = lines_more d.messages ns t u v d.written w.written;
-  };
-  partial = partial;
-  end_is = end_is;
+-- its lines were written
+pub stands_written : (w : Way) (total : ℕ) (left l taken taken' new : Option (List ℕ)) (messages : List Msg) (rest written lines shown : List ℕ) → Stands w total left l taken taken' messages rest written → shown ≡ lines → new ≡ after taken' shown
+    → Stands w total left l taken new messages rest (written ++ lines)
+stands_written w total left l taken taken' new messages rest written lines shown s shown-is all = record {
+  read = s.read;
+  consumed = s.consumed;
+  total_is = s.total_is;
+  begins = s.begins;
+  taken_is = all ∙ ap (after taken') shown-is ∙ ap (λ (o : Option (List ℕ)). after o lines) s.taken_is ∙ after-after taken written lines;
 }
+
+-- the piece can be fed
+pub feed_fits : (w : Way) (lines : List ℕ) (done : Option Status) (fed total kept : ℕ) (buffer : List ℕ) (left l taken taken' : Option (List ℕ)) (messages : List Msg) (rest written : List ℕ) → Stands w total left l taken taken' messages rest written → Keeps w lines done fed messages rest written
+    → total ≤ input_limit → kept ≤ input_limit - total → fed + length (take kept buffer) < 2 ^ 63
+feed_fits w lines ended fed total kept buffer left l taken taken' messages rest written s k within few =
+    omega (arith, k.total_is, s.total_is, length-take kept buffer, ap length (sym (take_all input_limit s.read (omega (arith, s.total_is))) ∙ s.begins.stream_is), length-append (frames_of messages) rest)
+
+-- while it goes on, less than a frame is left
+pub partial_of : (w : Way) (lines : List ℕ) (done : Option Status) (fed : ℕ) (messages : List Msg) (rest written : List ℕ) → done ≡ None → Keeps w lines done fed messages rest written → IsPartial body_limit rest
+partial_of w lines done fed messages rest written none k = by_done done none k.stands
+  where
+    by_done : (done : Option Status) → done ≡ None → StandsAt w done (length (frames_of messages)) rest → IsPartial body_limit rest
+    by_done None none stands = stands
+    by_done (Some end) none stands = absurd cc
 
 -- ---- ends
 
-writes_more : (end : Status) (ms ns : List Msg) (t u v : Option (List ℕ)) → u ≡ after t (lines_of ms) → Writes end ns u v → Writes end (ms ++ ns) t v
-writes_more status.WriteFault ms ns t u v first w = front_after (lines_of ms) (lines_of ns) (lines_of (ms ++ ns)) t u v (flat_map-append line_of ms ns) first w
-writes_more status.Ok ms ns t u v first w = lines_more ms ns t u v first w
-writes_more (status.NotYet place) ms ns t u v first w = lines_more ms ns t u v first w
-writes_more (status.Lost cause) ms ns t u v first w = lines_more ms ns t u v first w
-writes_more status.InputTooLong ms ns t u v first w = lines_more ms ns t u v first w
-writes_more status.ReadFault ms ns t u v first w = lines_more ms ns t u v first w
-writes_more status.OutOfMemory ms ns t u v first w = lines_more ms ns t u v first w
-writes_more status.Usage ms ns t u v first w = lines_more ms ns t u v first w
-
-ends_at : (end : Status) (read : List ℕ) (left : Option (List ℕ)) (ended : Option Bool) (place place' : ℕ) (rest : List ℕ) → place ≡ place' → StopsAt end place rest → EndsAt end read left ended place' rest
-ends_at status.Ok read left ended place place' rest same s = s
-ends_at (status.NotYet at) read left ended place place' rest same s = (s.0 ∙ same, inl s.1)
-ends_at status.WriteFault read left ended place place' rest same s = tt
-ends_at status.OutOfMemory read left ended place place' rest same s = tt
-ends_at (status.Lost cause) read left ended place place' rest same s = absurd s
-ends_at status.InputTooLong read left ended place place' rest same s = absurd s
-ends_at status.ReadFault read left ended place place' rest same s = absurd s
-ends_at status.Usage read left ended place place' rest same s = absurd s
-
--- the run ended in the next piece
-pub fed_stops : (end : Status) (left l' t u v : Option (List ℕ)) (ended : Option Bool) (g : FramerParts) (total : ℕ) → Fed left l' t u g total → WentTo end g u v → Injects end left l' ended t v
-fed_stops end left l' t u v ended g total d w = record {
-  read = d.read;
-  consumed = d.consumed;
-  messages = d.messages ++ w.messages;
-  rest = w.rest;
-  begins = begins_more d.messages w.messages (take input_limit d.read) g.rest w.rest d.begins w.begins;
-  ending = ends_at end d.read l' ended (g.given + length (frames_of w.messages)) (length (frames_of (d.messages ++ w.messages))) w.rest
-      (ap (λ (n : ℕ). n + length (frames_of w.messages)) d.given ∙ sym (length-frames_of d.messages w.messages)) w.ending;
-  writes = writes_more end d.messages w.messages t u v d.written w.writes;
-}
-
--- memory ended it before the piece was taken
-pub reads_no_memory : (left l l' taken taken' : Option (List ℕ)) (ended : Option Bool) (f : FramerParts) (total end n : ℕ) (buffer : List ℕ) → Reads left l taken taken' f total end → l ≡ before (take n buffer) l' → n ≤ length buffer → total ≤ input_limit → Injects status.OutOfMemory left l' ended taken taken'
-reads_no_memory left l l' taken taken' ended f total end n buffer r gives fits within =
-    let g : FramerParts = record { given = f.given; rest = f.rest ++ take (min n (input_limit - total)) buffer; limit = f.limit; over = f.over } in
-    let d = reads_fed left l l' taken taken' f g total end n buffer r (record { gives = gives; fits = fits; within = within; given = refl; rest = refl }) in
-    record { read = d.read; consumed = d.consumed; messages = d.messages; rest = g.rest; begins = d.begins; ending = tt; writes = d.written }
-
--- the source failed
-pub reads_fault : (left l l' taken taken' : Option (List ℕ)) (ended : Option Bool) (f : FramerParts) (total end : ℕ) → Reads left l taken taken' f total end → l' ≡ l → Injects status.ReadFault left l' ended taken taken'
-reads_fault left l l' taken taken' ended f total end r same =
-    let d = r.fed in
-    record { read = d.read; consumed = d.consumed ∙ ap (before d.read) (sym same); messages = d.messages; rest = f.rest; begins = d.begins; ending = r.partial; writes = d.written }
-
--- more was read than may be
-pub reads_too_long : (left l taken taken' : Option (List ℕ)) (ended : Option Bool) (f : FramerParts) (total end : ℕ) → Reads left l taken taken' f total end → input_limit < total → Injects status.InputTooLong left l ended taken taken'
-reads_too_long left l taken taken' ended f total end r long =
-    let d = r.fed in
-    record { read = d.read; consumed = d.consumed; messages = d.messages; rest = f.rest; begins = d.begins; ending = (r.partial, omega (arith, d.total_is)); writes = d.written }
-
--- how much of the stream is left over
-rest_length : (left l taken taken' : Option (List ℕ)) (f : FramerParts) (total end : ℕ) (r : Reads left l taken taken' f total end) → total ≤ input_limit → total ≡ end + length f.rest
-rest_length left l taken taken' f total end r within =
-    let d = r.fed in
-    omega (arith, d.total_is, r.end_is, d.given, ap length (sym (take_all input_limit d.read (omega (arith, d.total_is))) ∙ d.begins.stream_is), length-append (frames_of d.messages) f.rest)
-
--- the answer of the end leaves the source at its end
-at_end : (l l' : Option (List ℕ)) (e e' : Option Bool) (buffer : List ℕ) → ReadGives read.End buffer l l' → ReadEnds read.End e e' → AtEnd l' e'
-at_end l l' e e' buffer gives ends = (subst NoneLeft (sym gives.1) gives.0, set_is e e' ends)
+-- the lines that were written, and then a front of what follows them
+front_after : (written lines more : List ℕ) (t u v : Option (List ℕ)) → u ≡ after t written → TakesFront lines u v → TakesFront ((written ++ lines) ++ more) t v
+front_after written lines more t u v first second =
+    let whole : (written ++ lines) ++ more ≡ written ++ (lines ++ more) = append_assoc written lines more in
+    let same : take second.0 (lines ++ more) ≡ take second.0 lines = front_of second.0 lines more second.1 in (
+      length written + second.0,
+      omega (arith, second.1, length-append written lines, length-append (written ++ lines) more),
+      second.2 ∙ ap (λ (o : Option (List ℕ)). after o (take second.0 lines)) first ∙ after-after t written (take second.0 lines)
+          ∙ ap (after t) (ap (λ (x : List ℕ). written ++ x) (sym same) ∙ sym (take-append-add written (lines ++ more) second.0) ∙ ap (take (length written + second.0)) (sym whole)),
+    )
   where
-    set_is : (e e' : Option Bool) → ReadEnds read.End e e' → IsSet e'
-    set_is None e' ends = subst IsSet (sym ends) tt
-    set_is (Some flag) e' ends = subst IsSet (sym ends) refl
+    front_of : (n : ℕ) (xs ys : List ℕ) → n ≤ length xs → take n (xs ++ ys) ≡ take n xs
+    front_of n xs ys le = take-append-le n xs ys le
 
--- the input ended between frames
-pub reads_lost : (left l l' taken taken' : Option (List ℕ)) (e e' : Option Bool) (f : FramerParts) (total end : ℕ) (buffer : List ℕ) → Reads left l taken taken' f total end → ReadGives read.End buffer l l' → ReadEnds read.End e e' → total ≤ input_limit → end ≡ total
-    → Injects (status.Lost lost.Ended) left l' e' taken taken'
-reads_lost left l l' taken taken' e e' f total end buffer r gives ends within between =
-    let d = r.fed in
-    let none : f.rest ≡ [] = nil_from_length f.rest (omega (arith, rest_length left l taken taken' f total end r within)) in
-    record {
-      read = d.read;
-      consumed = d.consumed ∙ ap (before d.read) (sym gives.1);
-      messages = d.messages;
-      rest = f.rest;
-      begins = d.begins;
-      ending = (none, omega (arith, d.total_is), at_end l l' e e' buffer gives ends);
-      writes = d.written;
-    }
-
--- the input ended inside a frame
-pub reads_cut : (left l l' taken taken' : Option (List ℕ)) (e e' : Option Bool) (f : FramerParts) (total end : ℕ) (buffer : List ℕ) → Reads left l taken taken' f total end → ReadGives read.End buffer l l' → ReadEnds read.End e e' → total ≤ input_limit → end ≢ total
-    → Injects (status.NotYet end) left l' e' taken taken'
-reads_cut left l l' taken taken' e e' f total end buffer r gives ends within inside =
-    let d = r.fed in
-    let some : 0 < length f.rest = omega (arith, rest_length left l taken taken' f total end r within) in
-    record {
-      read = d.read;
-      consumed = d.consumed ∙ ap (before d.read) (sym gives.1);
-      messages = d.messages;
-      rest = f.rest;
-      begins = d.begins;
-      ending = (r.end_is ∙ d.given, inr (r.partial, some, omega (arith, d.total_is), at_end l l' e e' buffer gives ends));
-      writes = d.written;
-    }
-
--- the piece can be fed
-pub feed_fits : (left l taken taken' : Option (List ℕ)) (f : FramerParts) (total end kept : ℕ) (buffer : List ℕ) → Reads left l taken taken' f total end → total ≤ input_limit → kept ≤ input_limit - total → f.given + length f.rest + length (take kept buffer) < 2 ^ 63
-feed_fits left l taken taken' f total end kept buffer r within few =
-    omega (arith, rest_length left l taken taken' f total end r within, r.end_is, length-take kept buffer)
-
--- what feeding leaves
-fed_is : (f : FramerParts) (piece : List ℕ) → f.over ≡ false → (fed f piece).rest ≡ f.rest ++ piece
-fed_is f piece fine = ap (λ (b : Bool). cond b f.rest (f.rest ++ piece)) fine
-
--- how far a piece that was read and fed leads
-pub feeds : (l l' : Option (List ℕ)) (f g : FramerParts) (total n kept : ℕ) (buffer : List ℕ) → kept ≡ min n (input_limit - total) → l ≡ before (take n buffer) l' → n ≤ length buffer → total ≤ input_limit → f.over ≡ false → g ≡ fed f (take kept buffer) → Feeds l l' f g total n buffer
-feeds l l' f g total n kept buffer kept_is gives fits within fine g_is = record {
-  gives = gives;
-  fits = fits;
-  within = within;
-  given = ap (λ (x : FramerParts). x.given) g_is;
-  rest = ap (λ (x : FramerParts). x.rest) g_is ∙ fed_is f (take kept buffer) fine ∙ ap (λ (k : ℕ). f.rest ++ take k buffer) kept_is;
+-- writing the lines failed
+pub reads_write_fault : (w : Way) (lines shown : List ℕ) (total : ℕ) (left l' taken taken' new : Option (List ℕ)) (ended : Option Bool) (messages : List Msg) (rest written : List ℕ) → Stands w total left l' taken taken' messages rest written → Printed w lines messages written
+    → shown ≡ lines → TakesFront shown taken' new → Reads w status.WriteFault left l' ended taken new
+reads_write_fault w lines shown total left l' taken taken' new ended messages rest written s p shown-is front = record {
+  read = s.read;
+  consumed = s.consumed;
+  messages = messages;
+  rest = rest;
+  begins = s.begins;
+  ending = write_fault refl;
+  writes = subst (λ (t : List ℕ). TakesFront (t ++ w.last messages) taken new) p.lines_are
+      (front_after written lines (w.last messages) taken taken' new s.taken_is (subst (λ (x : List ℕ). TakesFront x taken' new) shown-is front));
 }
+
+-- all was written before the end; then come the last lines
+pub reads_finished : (w : Way) (end result : Status) (total : ℕ) (left l l' taken taken' new : Option (List ℕ)) (ended : Option Bool) (messages : List Msg) (rest written : List ℕ) (sink sink' : ℕ) → Stands w total left l taken taken' messages rest written → l' ≡ l → written ≡ w.text messages
+    → ((s : List ℕ) → left ≡ before s l' → total ≡ length s → EndsAt w end s l' ended (length (frames_of messages)) rest)
+    → (end ≢ status.WriteFault) → Finishes w end result messages taken' new sink sink' → Reads w result left l' ended taken new
+reads_finished w end result total left l l' taken taken' new ended messages rest written sink sink' s same all ends fine finishes =
+    let consumed : left ≡ before s.read l' = s.consumed ∙ ap (before s.read) (sym same) in
+    elim finishes [
+      | inl whole ↦ record {
+        read = s.read;
+        consumed = consumed;
+        messages = messages;
+        rest = rest;
+        begins = s.begins;
+        ending = subst (λ (e : Status). EndsAt w e s.read l' ended (length (frames_of messages)) rest) (sym whole.0) (ends s.read consumed s.total_is);
+        writes = subst (λ (e : Status). Writes w e messages taken new) (sym whole.0) (writes_all end fine
+            (whole.1 ∙ ap (λ (o : Option (List ℕ)). after o (w.last messages)) s.taken_is ∙ after-after taken written (w.last messages) ∙ ap (λ (t : List ℕ). after taken (t ++ w.last messages)) all));
+      }
+      | inr failed ↦ record {
+        read = s.read;
+        consumed = consumed;
+        messages = messages;
+        rest = rest;
+        begins = s.begins;
+        ending = write_fault failed.0;
+        writes = subst (λ (e : Status). Writes w e messages taken new) (sym failed.0)
+            (subst (λ (t : List ℕ). TakesFront t taken new) (append-nil (written ++ w.last messages) ∙ ap (λ (t : List ℕ). t ++ w.last messages) all)
+            (front_after written (w.last messages) [] taken taken' new s.taken_is failed.1));
+      }
+    ]
+  where
+    writes_all : (e : Status) → e ≢ status.WriteFault → new ≡ after taken (all_lines w messages) → Writes w e messages taken new
+    writes_all status.Ok other is = is
+    writes_all (status.BadFrames place why) other is = is
+    writes_all (status.NotYet place) other is = is
+    writes_all (status.Lost cause) other is = is
+    writes_all status.InputTooLong other is = is
+    writes_all status.Usage other is = is
+    writes_all status.LinkFault other is = is
+    writes_all status.TurnsSpent other is = is
+    writes_all (status.Refused which) other is = is
+    writes_all status.ReadFault other is = is
+    writes_all status.WriteFault other is = absurd (other refl)
+    writes_all status.OutOfMemory other is = is
+
+source_or : (end : Status) (source source' : ℕ) → end ≢ status.WriteFault → SourceCounts end source source' → (source' ≡ source) ⊎ Rises source source'
+source_or status.Ok source source' fine c = inl c
+source_or (status.BadFrames place why) source source' fine c = inl c
+source_or (status.NotYet place) source source' fine c = inl c
+source_or (status.Lost cause) source source' fine c = inl c
+source_or status.InputTooLong source source' fine c = inl c
+source_or status.Usage source source' fine c = inl c
+source_or status.LinkFault source source' fine c = inl c
+source_or status.TurnsSpent source source' fine c = inl c
+source_or (status.Refused which) source source' fine c = inl c
+source_or status.ReadFault source source' fine c = inr c
+source_or status.WriteFault source source' fine c = absurd (fine refl)
+source_or status.OutOfMemory source source' fine c = inl c
+
+sink_same : (end : Status) (sink sink' : ℕ) → end ≢ status.WriteFault → sink' ≡ sink → SinkCounts end sink sink'
+sink_same status.Ok sink sink' fine same = same
+sink_same (status.BadFrames place why) sink sink' fine same = same
+sink_same (status.NotYet place) sink sink' fine same = same
+sink_same (status.Lost cause) sink sink' fine same = same
+sink_same status.InputTooLong sink sink' fine same = same
+sink_same status.Usage sink sink' fine same = same
+sink_same status.LinkFault sink sink' fine same = same
+sink_same status.TurnsSpent sink sink' fine same = same
+sink_same (status.Refused which) sink sink' fine same = same
+sink_same status.ReadFault sink sink' fine same = same
+sink_same status.WriteFault sink sink' fine same = absurd (fine refl)
+sink_same status.OutOfMemory sink sink' fine same = same
+
+-- the counts at the end: the input's is as the end says, and the output's rose where the last lines were not taken
+pub causes_finished : (w : Way) (end result : Status) (messages : List Msg) (old new : Option (List ℕ)) (source source' sink middle sink' : ℕ) → SourceCounts end source source' → middle ≡ sink → end ≢ status.WriteFault
+    → Finishes w end result messages old new middle sink' → Causes result source source' sink sink'
+causes_finished w end result messages old new source source' sink middle sink' counts same fine finishes =
+    elim finishes [
+      | inl whole ↦ subst (λ (e : Status). Causes e source source' sink sink') (sym whole.0) (counts, sink_same end sink sink' fine (whole.2 ∙ same))
+      | inr failed ↦ subst (λ (e : Status). Causes e source source' sink sink') (sym failed.0) (source_or end source source' fine counts, subst (λ (n : ℕ). Rises n sink') same failed.2)
+    ]
+
+-- the input's end is the command's
+pub ends_at_end : (w : Way) (end : Status) (total : ℕ) (l l' : Option (List ℕ)) (e e' : Option Bool) (buffer : List ℕ) (messages : List Msg) (rest read : List ℕ) → IsPartial body_limit rest → EndsHere w end (length (frames_of messages)) rest → ReadGives answer.End buffer l l' → ReadEnds answer.End e e' → total ≤ input_limit → total ≡ length read
+    → EndsAt w end read l' e' (length (frames_of messages)) rest
+ends_at_end w end total l l' e e' buffer messages rest read partial here gives ends within total-is =
+    at_the_end partial here (record { none_left = subst NoneLeft (sym gives.1) gives.0; answered = answered e e' ends; within = omega (arith, total-is) })
+  where
+    answered : (e e' : Option Bool) → ReadEnds answer.End e e' → IsSet e'
+    answered None e' ends = subst IsSet (sym ends) tt
+    answered (Some flag) e' ends = subst IsSet (sym ends) refl
+
+-- a command whose end the bytes decide has no fault
+pub fine_by_bytes : (end : Status) → IsByBytes end → end ≢ status.WriteFault
+fine_by_bytes status.WriteFault by same = by
+fine_by_bytes status.Ok by same = absurd cc
+fine_by_bytes (status.BadFrames place why) by same = absurd cc
+fine_by_bytes (status.NotYet place) by same = absurd cc
+fine_by_bytes (status.Lost cause) by same = absurd cc
+fine_by_bytes status.InputTooLong by same = by
+fine_by_bytes status.Usage by same = by
+fine_by_bytes status.LinkFault by same = by
+fine_by_bytes status.TurnsSpent by same = by
+fine_by_bytes (status.Refused which) by same = absurd cc
+fine_by_bytes status.ReadFault by same = by
+fine_by_bytes status.OutOfMemory by same = by
+
+pub source_by_bytes : (end : Status) (source source' : ℕ) → IsByBytes end → source' ≡ source → SourceCounts end source source'
+source_by_bytes status.WriteFault source source' by same = absurd by
+source_by_bytes status.Ok source source' by same = same
+source_by_bytes (status.BadFrames place why) source source' by same = same
+source_by_bytes (status.NotYet place) source source' by same = same
+source_by_bytes (status.Lost cause) source source' by same = same
+source_by_bytes status.InputTooLong source source' by same = absurd by
+source_by_bytes status.Usage source source' by same = absurd by
+source_by_bytes status.LinkFault source source' by same = absurd by
+source_by_bytes status.TurnsSpent source source' by same = absurd by
+source_by_bytes (status.Refused which) source source' by same = same
+source_by_bytes status.ReadFault source source' by same = absurd by
+source_by_bytes status.OutOfMemory source source' by same = absurd by
+
+-- the lines of the messages are all written
+pub all_written : (w : Way) (lines : List ℕ) (messages : List Msg) (written : List ℕ) → Printed w lines messages written → lines ≡ [] → written ≡ w.text messages
+all_written w lines messages written p none = sym (append-nil written) ∙ ap (λ (t : List ℕ). written ++ t) (sym none) ∙ p.lines_are
+
+-- where the command stands before a read, that read is rightly made
+pub stops_here : (w : Way) (total : ℕ) (left l before_l taken taken' : Option (List ℕ)) (e before_e : Option Bool) (messages : List Msg) (rest written : List ℕ) → Stands w total left l taken taken' messages rest written → IsPartial body_limit rest → NotSet e → total ≤ input_limit
+    → (before_l ≡ l) × (before_e ≡ e) → Stops w left before_l before_e
+stops_here w total left l before_l taken taken' e before_e messages rest written s partial fine within latest = record {
+  earlier = s.read;
+  consumed = s.consumed ∙ ap (before s.read) (sym latest.0);
+  not_ended = subst NotSet (sym latest.1) fine;
+  within = omega (arith, s.total_is);
+  messages = messages;
+  rest = rest;
+  begins = subst (λ (x : List ℕ). Begins w messages x rest) (take_all input_limit s.read (omega (arith, s.total_is))) s.begins;
+  partial = partial;
+}
+
+-- ---- the exits of a run, where the core's way is the command's
+
+no_fault : {A : Type 0} → status.ReadFault ≡ status.WriteFault → A
+no_fault same = absurd cc
+
+no_memory_fault : {A : Type 0} → status.OutOfMemory ≡ status.WriteFault → A
+no_memory_fault same = absurd cc
+
+no_limit_fault : {A : Type 0} → status.InputTooLong ≡ status.WriteFault → A
+no_limit_fault same = absurd cc
+
+-- all was written, and the last lines were, or not
+pub finished : (w v : Way) → v ≡ w → (end result : Status) (total : ℕ) (left l l' taken taken' new : Option (List ℕ)) (ended : Option Bool) (messages : List Msg) (rest written lines : List ℕ) (sink sink' : ℕ) → Stands w total left l taken taken' messages rest written → l' ≡ l → Printed v lines messages written → lines ≡ []
+    → ((s : List ℕ) → total ≡ length s → EndsAt w end s l' ended (length (frames_of messages)) rest) → (end ≢ status.WriteFault) → Finishes v end result messages taken' new sink sink' → Reads w result left l' ended taken new
+finished w v way end result total left l l' taken taken' new ended messages rest written lines sink sink' s same p none ends fine f =
+    reads_finished w end result total left l l' taken taken' new ended messages rest written sink sink' s same (all_written w lines messages written (subst (λ (q : Way). Printed q lines messages written) way p) none)
+    (λ read consumed total-is. ends read total-is) fine (subst (λ (q : Way). Finishes q end result messages taken' new sink sink') way f)
+
+pub finished_fault : (w v : Way) → v ≡ w → (result : Status) (total : ℕ) (left l l' taken taken' new : Option (List ℕ)) (ended : Option Bool) (messages : List Msg) (rest written lines : List ℕ) (sink sink' : ℕ) → Stands w total left l taken taken' messages rest written → l' ≡ l → Printed v lines messages written → lines ≡ []
+    → IsPartial body_limit rest → Finishes v status.ReadFault result messages taken' new sink sink' → Reads w result left l' ended taken new
+finished_fault w v way result total left l l' taken taken' new ended messages rest written lines sink sink' s same p none partial f =
+    finished w v way status.ReadFault result total left l l' taken taken' new ended messages rest written lines sink sink' s same p none (λ read total-is. read_fault refl partial) (λ e. no_fault e) f
+
+pub finished_memory : (w v : Way) → v ≡ w → (result : Status) (total : ℕ) (left l taken taken' new : Option (List ℕ)) (ended : Option Bool) (messages : List Msg) (rest written lines : List ℕ) (sink sink' : ℕ) → Stands w total left l taken taken' messages rest written → Printed v lines messages written → lines ≡ []
+    → Finishes v status.OutOfMemory result messages taken' new sink sink' → Reads w result left l ended taken new
+finished_memory w v way result total left l taken taken' new ended messages rest written lines sink sink' s p none f =
+    finished w v way status.OutOfMemory result total left l l taken taken' new ended messages rest written lines sink sink' s refl p none (λ read total-is. no_memory refl) (λ e. no_memory_fault e) f
+
+pub finished_limit : (w v : Way) → v ≡ w → (result : Status) (total : ℕ) (left l taken taken' new : Option (List ℕ)) (ended : Option Bool) (messages : List Msg) (rest written lines : List ℕ) (sink sink' : ℕ) → Stands w total left l taken taken' messages rest written → Printed v lines messages written → lines ≡ []
+    → IsPartial body_limit rest → input_limit < total → Finishes v status.InputTooLong result messages taken' new sink sink' → Reads w result left l ended taken new
+finished_limit w v way result total left l taken taken' new ended messages rest written lines sink sink' s p none partial long f =
+    finished w v way status.InputTooLong result total left l l taken taken' new ended messages rest written lines sink sink' s refl p none (λ read total-is. too_long refl partial (omega (arith, total-is))) (λ e. no_limit_fault e) f
+
+pub finished_end : (w v : Way) → v ≡ w → (end result : Status) (total : ℕ) (left l l' taken taken' new : Option (List ℕ)) (e e' : Option Bool) (buffer : List ℕ) (messages : List Msg) (rest written lines : List ℕ) (sink sink' : ℕ) → Stands w total left l taken taken' messages rest written → Printed v lines messages written → lines ≡ []
+    → IsPartial body_limit rest → EndsHere v end (length (frames_of messages)) rest → ReadGives answer.End buffer l l' → ReadEnds answer.End e e' → total ≤ input_limit → Finishes v end result messages taken' new sink sink' → Reads w result left l' e' taken new
+finished_end w v way end result total left l l' taken taken' new e e' buffer messages rest written lines sink sink' s p none partial here gives ends within f =
+    finished w v way end result total left l l' taken taken' new e' messages rest written lines sink sink' s gives.1 p none
+    (λ read total-is. ends_at_end w end total l l' e e' buffer messages rest read partial (subst (λ (q : Way). EndsHere q end (length (frames_of messages)) rest) way here) gives ends within total-is) (fine_by_bytes end here.0) f
+
+-- a core that has ended stands at what ended it
+stops_of : (w : Way) (done : Option Status) (end : Status) (place : ℕ) (rest : List ℕ) → Some end ≡ done → StandsAt w done place rest → StopsAt w end place rest × IsByBytes end
+stops_of w None end place rest is stands = absurd cc
+stops_of w (Some e) end place rest is stands = subst (λ (x : Status). StopsAt w x place rest × IsByBytes x) (sym (some_is end e is)) stands
+  where
+    some_is : (x y : Status) → Some x ≡ Some y → x ≡ y
+    some_is x y same = cc
+
+pub finished_stop : (w v : Way) → v ≡ w → (end result : Status) (fed total : ℕ) (left l taken taken' new : Option (List ℕ)) (ended : Option Bool) (done : Option Status) (messages : List Msg) (rest written lines : List ℕ) (sink sink' : ℕ) → Stands w total left l taken taken' messages rest written → Keeps v lines done fed messages rest written → lines ≡ []
+    → Some end ≡ done → Finishes v end result messages taken' new sink sink' → Reads w result left l ended taken new
+finished_stop w v way end result fed total left l taken taken' new ended done messages rest written lines sink sink' s k none is f =
+    let stops = stops_of v done end (length (frames_of messages)) rest is k.stands in
+    finished w v way end result total left l l taken taken' new ended messages rest written lines sink sink' s refl k.printed none
+    (λ read total-is. by_frame (subst (λ (q : Way). StopsAt q end (length (frames_of messages)) rest) way stops.0)) (fine_by_bytes end stops.1) f
+
+pub by_bytes_of : (w : Way) (lines : List ℕ) (done : Option Status) (end : Status) (fed : ℕ) (messages : List Msg) (rest written : List ℕ) → Keeps w lines done fed messages rest written → Some end ≡ done → IsByBytes end
+by_bytes_of w lines done end fed messages rest written k is = (stops_of w done end (length (frames_of messages)) rest is k.stands).1
+
+pub printed_as : (w v : Way) → v ≡ w → (lines : List ℕ) (messages : List Msg) (written : List ℕ) → Printed v lines messages written → Printed w lines messages written
+printed_as w v way lines messages written p = subst (λ (q : Way). Printed q lines messages written) way p
+
+abbrev pub further_as : (w v : Way) → v ≡ w → (rest piece : List ℕ) → Further v rest piece → Further w rest piece
+further_as w v way rest piece f = record { more = f.more; rest' = f.rest'; begins = subst (λ (q : Way). Begins q f.more (rest ++ piece) f.rest') way f.begins }

@@ -1,101 +1,80 @@
--- What injection writes of the bytes that it reads, and how it ends.
-use Rattle.std.specs.Prelude.{◌≡◌, ◌≢◌, ℕ, ◌<◌, ◌≤◌, ◌⊎◌, Bool, true, false, List, [], ◌++◌, length, take, Option}
+-- The client of injection, in the words of a core: what it stands for is what a command wants to know of it.
+use Rattle.std.specs.Prelude.{◌≡◌, ℕ, List, [], ◌∷◌, ◌++◌, length, Option, Some, None}
 use Rattle.std.specs.List.{AllByRecursion}
-use Rattle.share_base.specs.Told.{before, after, NoneLeft, IsSet}
-use Rattle.share_base.specs.Writing.{TakesFront}
-use Rattle.wire_frames.specs.Framing.{frame, IsPartial, IsTooLong}
-use Rattle.message_codec.specs.declared.messages.End.TheVariants as ends
+use Rattle.std.specs.Option.{option_map}
+use Rattle.std.proofs.Common.{ap, refl, inl, inr}
 use Rattle.message_codec.specs.declared.messages.Msg.{Msg}
-use Rattle.message_codec.specs.declared.messages.Msg.TheVariants as msg
-use Rattle.message_codec.specs.Spelling.{body_of, Spells}
-use Rattle.message_codec.specs.Streams.{body_limit, frame_of, frames_of}
+use Rattle.message_codec.specs.Streams.{frames_of, IsGood, AllGood}
+use Rattle.client_core.specs.declared.client_end.ClientEnd.{ClientEnd}
+use Rattle.client_core.specs.declared.client_end.ClientEnd.TheVariants as end
+use Rattle.client_core.specs.declared.client.ClientCore.{ClientCore}
+use Rattle.client_core.specs.declared.stop.Stop.{Stop}
+use Rattle.client_core.specs.declared.stop.Stop.TheVariants as stop
+use Rattle.client_core.specs.Ends.{server, stop_of, HasStop, EndsAt}
+use Rattle.client_core.specs.Kept.{Heard, Kept, StandsAt, lines_in}
+use Rattle.share_base.specs.declared.reason.Reason.{Reason}
+use Rattle.share_base.specs.declared.reason.Reason.TheVariants as reason
+use Rattle.message_codec.specs.Verdicts as verdict
 use Rattle.synergy_share.specs.declared.status.Status.{Status}
-use Rattle.synergy_share.specs.declared.status.Status.TheVariants as status
-use Rattle.synergy_share.specs.declared.status.LostCause.TheVariants as lost
-use Rattle.synergy_share.specs.Printed.{lines_of}
+use Rattle.synergy_share.specs.Ways.{injecting, status_of, ending_of}
+use Rattle.synergy_share.specs.Begins.{GoesOn, StopsAt, IsBad}
+use Rattle.synergy_share.specs.Cores as core
 
-abbrev pub input_limit : ℕ
-input_limit = 1073741824
+-- a message of the server is one wherever it stands
+pub good_anywhere : (before : List Msg) (m : Msg) → IsGood server before m → IsGood server [] m
+good_anywhere before m good = record { spelled = good.spelled; within = good.within; taken = good.taken }
 
--- ---- the messages of a stream
+pub going_of : (before ms : List Msg) → AllGood server before ms → AllByRecursion (λ m. stop_of m ≡ None) ms → AllByRecursion (GoesOn injecting) ms
+going_of before [] good goes = tt
+going_of before (m ∷ ms) good goes = (record { good = good_anywhere before m good.0; goes = ap (option_map ending_of) goes.0 }, going_of (before ++ m ∷ []) ms good.1 goes.1)
 
--- the messages that are read so far
-abbrev pub is_read : Msg → Bool
-is_read (msg.Enter x y seq mask) = true
-is_read msg.Leave = true
-is_read (msg.MoveTo x y) = true
-is_read msg.Bye = true
-is_read m = false
+pub heard_prints : (client : ClientCore) (messages : List Msg) (taken : List ℕ) → Heard client messages taken → core.Printed injecting (lines_in client) messages taken
+heard_prints client messages taken h = record { going = going_of [] messages h.going.good h.going.goes; lines_are = h.shows.printed }
 
--- one of those, of the server, in a frame within the limit, that doesn't end the run
-pub record GoesOn (m : Msg) : Type 0 where
-  pub spelled : Spells ends.Server m (body_of m)
-  pub within : length (body_of m) ≤ body_limit
-  pub read : is_read m ≡ true
-  pub not_bye : m ≢ msg.Bye
+pub kept_heard : (client : ClientCore) (messages : List Msg) (rest taken : List ℕ) → Kept client messages rest taken → Heard client messages taken
+kept_heard client messages rest taken k = k.heard
 
--- the stream is the frames of these messages, none of which ends the run, and then the rest
-pub record Begins (messages : List Msg) (stream rest : List ℕ) : Type 0 where
-  pub stream_is : stream ≡ frames_of messages ++ rest
-  pub going : AllByRecursion GoesOn messages
+-- what stops the client ends the command so
+stopped : (before : List Msg) (by : Stop) (end : Status) (bytes : List ℕ) → end ≡ ending_of by (length (frames_of before)) → HasStop before by bytes → StopsAt injecting end (length (frames_of before)) bytes
+stopped before by end bytes is s = inl (record {
+  message = s.message;
+  more = s.more;
+  front = s.front;
+  good = good_anywhere before s.message s.good;
+  ending = ending_of by;
+  ends = ap (option_map ending_of) s.stops;
+  end_is = is;
+})
 
--- the farewell stands at the front
-abbrev pub HasBye : List ℕ → Type 0
-HasBye bytes = (more : List ℕ) × (bytes ≡ frame_of msg.Bye ++ more)
+bad_anywhere : (before : List Msg) (why : Reason) (bytes : List ℕ) → verdict.IsBad server before why bytes → IsBad injecting why bytes
+bad_anywhere before reason.TooLong bytes b = b
+bad_anywhere before reason.Cut bytes b = b
+bad_anywhere before reason.State bytes b = record { message = b.message; more = b.more; front = b.front; within = b.within; spelled = b.spelled; not_taken = b.not_taken }
+bad_anywhere before reason.Code bytes b = record { body = b.body; more = b.more; front = b.front; within = b.within; fault = b.fault; refused = b.refused; for_it = b.for_it }
+bad_anywhere before reason.End bytes b = record { body = b.body; more = b.more; front = b.front; within = b.within; fault = b.fault; refused = b.refused; for_it = b.for_it }
+bad_anywhere before reason.Short bytes b = record { body = b.body; more = b.more; front = b.front; within = b.within; fault = b.fault; refused = b.refused; for_it = b.for_it }
+bad_anywhere before reason.Trailing bytes b = record { body = b.body; more = b.more; front = b.front; within = b.within; fault = b.fault; refused = b.refused; for_it = b.for_it }
+bad_anywhere before reason.Clip bytes b = record { body = b.body; more = b.more; front = b.front; within = b.within; fault = b.fault; refused = b.refused; for_it = b.for_it }
+bad_anywhere before reason.Mark bytes b = record { body = b.body; more = b.more; front = b.front; within = b.within; fault = b.fault; refused = b.refused; for_it = b.for_it }
 
--- a whole frame within the limit stands at the front, and none of the messages that are read spells its body
-pub record IsUnread (bytes : List ℕ) : Type 0 where
-  pub body : List ℕ
-  pub more : List ℕ
-  pub front : bytes ≡ frame body ++ more
-  pub within : length body ≤ body_limit
-  pub none : (m : Msg) → Spells ends.Server m body → is_read m ≡ true → ⊥
+ends_so : (e : ClientEnd) (before : List Msg) (bytes : List ℕ) → EndsAt e before bytes → StopsAt injecting (status_of e) (length (frames_of before)) bytes × core.IsByBytes (status_of e)
+ends_so end.Bye before bytes s = (stopped before stop.Bye _ bytes refl s, tt)
+ends_so (end.Refused which) before bytes s = (stopped before (stop.Refused which) _ bytes refl s, tt)
+ends_so (end.NotYet place) before bytes s = (stopped before stop.NotYet _ bytes (ap (λ (n : ℕ). status_of (end.NotYet n)) s.0) s.1, tt)
+ends_so (end.BadPeer place why) before bytes s = (inr (record { why = why; bad = bad_anywhere before why bytes s.1; end_is = ap (λ (n : ℕ). status_of (end.BadPeer n why)) s.0 }), tt)
+ends_so (end.Lost cause) before bytes s = absurd s
+ends_so end.TurnsSpent before bytes s = absurd s
+ends_so end.LinkFault before bytes s = absurd s
+ends_so end.WriteFault before bytes s = absurd s
+ends_so end.OutOfMemory before bytes s = absurd s
 
-abbrev pub IsBad : List ℕ → Type 0
-IsBad bytes = IsTooLong body_limit bytes ⊎ IsUnread bytes
+stands_so : (client : ClientCore) (done : Option ClientEnd) (messages : List Msg) (rest : List ℕ) → StandsAt client done messages rest → core.StandsAt injecting (option_map status_of done) (length (frames_of messages)) rest
+stands_so client None messages rest s = s.partial
+stands_so client (Some e) messages rest s = ends_so e messages rest s
 
--- nothing that goes on stands at the front
-abbrev pub IsSettled : List ℕ → Type 0
-IsSettled rest = IsPartial body_limit rest ⊎ (IsBad rest ⊎ HasBye rest)
-
--- ---- the end of a run
-
--- the input ended: where that is told, no byte is left, and a read has answered so
-abbrev pub AtEnd : Option (List ℕ) → Option Bool → Type 0
-AtEnd left ended = NoneLeft left × IsSet ended
-
--- the input ended inside a frame
-abbrev pub IsCut : List ℕ → List ℕ → Option (List ℕ) → Option Bool → Type 0
-IsCut read rest left ended = IsPartial body_limit rest × (0 < length rest) × (length read ≤ input_limit) × AtEnd left ended
-
--- how the run ends after it has read these bytes, at a rest that stands at that place
-abbrev pub EndsAt : Status → List ℕ → Option (List ℕ) → Option Bool → ℕ → List ℕ → Type 0
-EndsAt status.Ok read left ended place rest = HasBye rest
-EndsAt (status.NotYet at) read left ended place rest = (at ≡ place) × (IsBad rest ⊎ IsCut read rest left ended)
-EndsAt (status.Lost lost.Ended) read left ended place rest = (rest ≡ []) × (length read ≤ input_limit) × AtEnd left ended
-EndsAt status.InputTooLong read left ended place rest = IsPartial body_limit rest × (input_limit < length read)
-EndsAt status.ReadFault read left ended place rest = IsPartial body_limit rest
-EndsAt status.WriteFault read left ended place rest = Unit {0}
-EndsAt status.OutOfMemory read left ended place rest = Unit {0}
-EndsAt status.Usage read left ended place rest = ⊥
-
--- what the sink took: all the lines of the messages, or a front of them where it failed
-abbrev pub Writes : Status → List Msg → Option (List ℕ) → Option (List ℕ) → Type 0
-Writes status.WriteFault messages old new = TakesFront (lines_of messages) old new
-Writes status.Ok messages old new = new ≡ after old (lines_of messages)
-Writes (status.NotYet place) messages old new = new ≡ after old (lines_of messages)
-Writes (status.Lost cause) messages old new = new ≡ after old (lines_of messages)
-Writes status.InputTooLong messages old new = new ≡ after old (lines_of messages)
-Writes status.ReadFault messages old new = new ≡ after old (lines_of messages)
-Writes status.OutOfMemory messages old new = new ≡ after old (lines_of messages)
-Writes status.Usage messages old new = new ≡ after old (lines_of messages)
-
--- bytes were read; those within the limit begin with messages, at whose rest the run ends; and their lines were written
-pub record Injects (end : Status) (left left' : Option (List ℕ)) (ended' : Option Bool) (taken taken' : Option (List ℕ)) : Type 0 where
-  pub read : List ℕ
-  pub consumed : left ≡ before read left'
-  pub messages : List Msg
-  pub rest : List ℕ
-  pub begins : Begins messages (take input_limit read) rest
-  pub ending : EndsAt end read left' ended' (length (frames_of messages)) rest
-  pub writes : Writes end messages taken taken'
+pub kept_keeps : (client : ClientCore) (messages : List Msg) (rest taken : List ℕ) → Kept client messages rest taken → core.Keeps injecting (lines_in client) (option_map status_of client.done) client.total messages rest taken
+kept_keeps client messages rest taken k = record {
+  printed = heard_prints client messages taken k.heard;
+  total_is = k.total;
+  stands = stands_so client client.done messages rest k.stands;
+}

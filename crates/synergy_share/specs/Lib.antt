@@ -1,7 +1,10 @@
-pub mod Printed
+pub mod Ways
+pub mod Begins
+pub mod Showing
+pub mod Cores
+pub mod Shower
 pub mod Injecting
+pub mod Commands
 pub mod Causes
-pub mod Draining
 pub mod Statuses
 pub mod Words
-pub mod Commands

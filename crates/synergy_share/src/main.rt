@@ -6,20 +6,25 @@
 #![tactic(auto)]
 
 mod command;
-mod injecting;
+mod commands;
+mod inject_core;
 mod laws;
-mod printing;
+mod line_core;
 mod real;
+mod show_core;
+mod show_next;
 mod status;
 #[cfg(test)]
 mod tests;
 mod top;
 
 pub use command::{Command, form};
-pub use injecting::run_inject;
+pub use commands::{run_inject, run_show};
 pub use laws::one_reading;
+pub use line_core::LineCore;
 pub use real::{StdSink, StdSource};
-pub use status::{LostCause, Status};
+pub use show_core::ShowCore;
+pub use status::Status;
 use std::env;
 use std::io::{ErrorKind, Write};
 use std::process::ExitCode;

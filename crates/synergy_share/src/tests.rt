@@ -1,7 +1,11 @@
 ghost use Rattle.std.specs.Prelude.{◌≤◌, IfOk};
 
 use super::*;
-use share_base::{MemorySink, MemorySource, OutOfMemory, Sink, SinkAnswer, Source, SourceAnswer};
+use client_core::LostCause;
+use message_codec::End;
+use share_base::{
+    MemorySink, MemorySource, OutOfMemory, Reason, Sink, SinkAnswer, Source, SourceAnswer,
+};
 use std::alloc::Global;
 use std::io;
 use std::io::Read;
@@ -11,16 +15,23 @@ const ENTER: [u8; 18] = *b"\x00\x00\x00\x0eCINN\x00\x00\x01\x80\x00\x00\x00\x01\
 
 const LEAVE: [u8; 8] = *b"\x00\x00\x00\x04COUT";
 
-const MOVE: [u8; 12] = *b"\x00\x00\x00\x08DMMV\x00\x05\xff\xfe";
+const KEY: [u8; 14] = *b"\x00\x00\x00\x0aDKDN\x00\x61\x00\x00\x00\x26";
 
-const ALIVE: [u8; 8] = *b"\x00\x00\x00\x04CALV";
+const BUTTON: [u8; 9] = *b"\x00\x00\x00\x05DMDN\x03";
 
 const BYE: [u8; 8] = *b"\x00\x00\x00\x04CBYE";
+
+const CLIPBOARD: [u8; 19] = *b"\x00\x00\x00\x0fDCLP\x00\x00\x00\x00\x00\x01\x00\x00\x00\x015";
+
+const HELLO: [u8; 22] = *b"\x00\x00\x00\x12Synergy\x00\x01\x00\x06\x00\x00\x00\x03pad";
+
+const TOO_LONG: [u8; 4] = *b"\x00\x40\x00\x01";
 
 /// What is read, at which calls the sink fails, and what must come of it.
 #[derive(Drop)]
 struct Row<'a> {
-    parts: [&'a [u8]; 3],
+    command: Command,
+    parts: &'a [&'a [u8]],
     failing: &'a [u64],
     lines: &'a [u8],
     status: Status,
@@ -28,65 +39,158 @@ struct Row<'a> {
 
 fn passes(alloc: Global, row: &Row) -> Result<bool, OutOfMemory> {
     let mut bytes = Vec::new(alloc);
-    for part in &row.parts {
+    for part in row.parts {
         bytes.extend_from_slice(part)?;
     }
     let mut input = MemorySource::new(alloc, &bytes, &[])?;
     let mut out = MemorySink::new(alloc, 1000, row.failing)?;
-    let status = run_inject(alloc, &mut input, &mut out);
+    let status = match row.command {
+        Command::Inject => run_inject(alloc, &mut input, &mut out),
+        Command::Show(end) => run_show(alloc, end, &mut input, &mut out),
+    };
     Ok(status == row.status && out.bytes() == row.lines)
 }
 
 #[test]
-fn injection_prints_and_ends(rt: HostRuntime) {
+fn injection_ends_as_its_server_does(rt: HostRuntime) {
     let rows = [
         Row {
-            parts: [&[], &[], &[]],
+            command: Command::Inject,
+            parts: &[],
             failing: &[],
             lines: b"",
             status: Status::Lost(LostCause::Ended),
         },
         Row {
-            parts: [&ENTER, &LEAVE, &BYE],
+            command: Command::Inject,
+            parts: &[&BYE, &[255; 4]],
             failing: &[],
-            lines: b"enter 0 384 1 0\nleave\n",
+            lines: b"",
             status: Status::Ok,
         },
         Row {
-            parts: [&ENTER, &LEAVE, &BYE],
+            command: Command::Inject,
+            parts: &[&ENTER, &CLIPBOARD],
+            failing: &[],
+            lines: b"enter 0 384 1 0\n",
+            status: Status::NotYet { place: 18 },
+        },
+        Row {
+            command: Command::Inject,
+            parts: &[&ENTER, &[0, 0]],
+            failing: &[],
+            lines: b"enter 0 384 1 0\n",
+            status: Status::BadFrames {
+                place: 18,
+                reason: Reason::Cut,
+            },
+        },
+        Row {
+            command: Command::Inject,
+            parts: &[&ENTER, &TOO_LONG],
+            failing: &[],
+            lines: b"enter 0 384 1 0\n",
+            status: Status::BadFrames {
+                place: 18,
+                reason: Reason::TooLong,
+            },
+        },
+    ];
+    for row in &rows {
+        assert_eq!(rt; passes(rt.alloc(), row), Ok(true));
+    }
+}
+
+#[test]
+fn injection_lets_go_at_every_end(rt: HostRuntime) {
+    let rows = [
+        Row {
+            command: Command::Inject,
+            parts: &[&ENTER, &KEY, &BUTTON, &LEAVE, &BYE],
+            failing: &[],
+            lines: b"enter 0 384 1 0\nkey down 97 38 0\nbutton down 3\nkey up 97 38\nbutton up 3\nleave\n",
+            status: Status::Ok,
+        },
+        Row {
+            command: Command::Inject,
+            parts: &[&ENTER, &KEY, &BUTTON],
+            failing: &[],
+            lines: b"enter 0 384 1 0\nkey down 97 38 0\nbutton down 3\nkey up 97 38\nbutton up 3\n",
+            status: Status::Lost(LostCause::Ended),
+        },
+        Row {
+            command: Command::Inject,
+            parts: &[&ENTER, &KEY, &BUTTON],
             failing: &[1],
             lines: b"",
             status: Status::WriteFault,
         },
         Row {
-            parts: [&ENTER, &MOVE, &BYE],
-            failing: &[],
-            lines: b"enter 0 384 1 0\nmove 5 -2\n",
-            status: Status::Ok,
+            command: Command::Inject,
+            parts: &[&ENTER, &KEY, &BUTTON],
+            failing: &[2],
+            lines: b"enter 0 384 1 0\nkey down 97 38 0\nbutton down 3\n",
+            status: Status::WriteFault,
         },
+    ];
+    for row in &rows {
+        assert_eq!(rt; passes(rt.alloc(), row), Ok(true));
+    }
+}
+
+#[test]
+fn messages_are_shown_in_order(rt: HostRuntime) {
+    let rows = [
         Row {
-            parts: [&ENTER, &ALIVE, &[]],
-            failing: &[],
-            lines: b"enter 0 384 1 0\n",
-            status: Status::NotYet { place: 18 },
-        },
-        Row {
-            parts: [&ENTER, &[0, 0], &[]],
-            failing: &[],
-            lines: b"enter 0 384 1 0\n",
-            status: Status::NotYet { place: 18 },
-        },
-        Row {
-            parts: [&BYE, &[255; 4], &[]],
+            command: Command::Show(End::Server),
+            parts: &[],
             failing: &[],
             lines: b"",
             status: Status::Ok,
         },
         Row {
-            parts: [&ENTER, &[0, 0x40, 0, 1], &[]],
+            command: Command::Show(End::Client),
+            parts: &[&HELLO, &TOO_LONG],
             failing: &[],
-            lines: b"enter 0 384 1 0\n",
-            status: Status::NotYet { place: 18 },
+            lines: b"Synergy 1 6 706164\n",
+            status: Status::BadFrames {
+                place: 22,
+                reason: Reason::TooLong,
+            },
+        },
+        Row {
+            command: Command::Show(End::Server),
+            parts: &[&LEAVE, &BYE, &LEAVE],
+            failing: &[],
+            lines: b"COUT\nCBYE\nCOUT\n",
+            status: Status::Ok,
+        },
+        Row {
+            command: Command::Show(End::Server),
+            parts: &[&LEAVE, &[0, 0, 0, 4, b'C']],
+            failing: &[],
+            lines: b"COUT\n",
+            status: Status::BadFrames {
+                place: 8,
+                reason: Reason::Cut,
+            },
+        },
+        Row {
+            command: Command::Show(End::Client),
+            parts: &[&ENTER],
+            failing: &[],
+            lines: b"",
+            status: Status::BadFrames {
+                place: 0,
+                reason: Reason::End,
+            },
+        },
+        Row {
+            command: Command::Show(End::Server),
+            parts: &[&LEAVE],
+            failing: &[1],
+            lines: b"",
+            status: Status::WriteFault,
         },
     ];
     for row in &rows {
@@ -106,9 +210,15 @@ fn a_failed_read_keeps_the_lines(rt: HostRuntime) -> Result<(), Fail> {
 
 #[test]
 fn statuses_have_a_code_and_a_line(rt: HostRuntime) {
-    let cut = Status::NotYet { place: 18 };
-    assert_eq!(rt; cut.code(), 10);
-    assert_eq!(rt; cut.report().as_slice(), b"not yet 18\n".as_slice());
+    let bad = Status::BadFrames {
+        place: 22,
+        reason: Reason::TooLong,
+    };
+    assert_eq!(rt; bad.code(), 1);
+    assert_eq!(rt; bad.report().as_slice(), b"frames 22 toolong\n".as_slice());
+    let held = Status::NotYet { place: 18 };
+    assert_eq!(rt; held.code(), 10);
+    assert_eq!(rt; held.report().as_slice(), b"not yet 18\n".as_slice());
     let lost = Status::Lost(LostCause::Ended);
     assert_eq!(rt; lost.code(), 9);
     assert_eq!(rt; lost.report().as_slice(), b"lost ended\n".as_slice());
@@ -119,11 +229,23 @@ fn statuses_have_a_code_and_a_line(rt: HostRuntime) {
 fn words_name_a_command_or_none(rt: HostRuntime) -> Result<(), Fail> {
     for (word, status) in [
         ("inject", Status::Lost(LostCause::Ended)),
+        ("show", Status::Usage),
         ("--help", Status::Usage),
     ] {
         let mut input = MemorySource::new(rt.alloc(), &[], &[])?;
         let mut out = MemorySink::new(rt.alloc(), 0, &[])?;
         let words = vec![in rt.alloc(); String::from_str(rt.alloc(), word)?]?;
+        assert_eq!(rt; run(rt.alloc(), &words, &mut input, &mut out), status);
+    }
+    for (word, status) in [
+        ("server", Status::Ok),
+        ("client", Status::Ok),
+        ("both", Status::Usage),
+    ] {
+        let mut input = MemorySource::new(rt.alloc(), &[], &[])?;
+        let mut out = MemorySink::new(rt.alloc(), 0, &[])?;
+        let show = String::from_str(rt.alloc(), "show")?;
+        let words = vec![in rt.alloc(); show, String::from_str(rt.alloc(), word)?]?;
         assert_eq!(rt; run(rt.alloc(), &words, &mut input, &mut out), status);
     }
     Ok(())

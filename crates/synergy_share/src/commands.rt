@@ -1,0 +1,118 @@
+//! The commands that read a stream and print its messages.
+
+ghost use Rattle.std.specs.Prelude.{◌≡◌, [], List, ℕ, None};
+ghost use Rattle.message_codec.specs.declared.messages.Msg.{Msg};
+ghost use Rattle.share_base.specs.Told.{NotSet};
+ghost use Rattle.synergy_share.specs.Ways.{showing, injecting};
+ghost use Rattle.synergy_share.specs.Cores.{Finishes};
+ghost use Rattle.synergy_share.specs.Commands.{Reads, Stops, Releases};
+ghost use Rattle.synergy_share.specs.Causes.{Causes};
+
+use crate::line_core::LineCore;
+use crate::show_core::ShowCore;
+use crate::status::Status;
+use client_core::ClientCore;
+use message_codec::End;
+use share_base::{OutOfMemory, Sink, Source, SourceAnswer, write_all};
+use std::alloc::Global;
+
+/// How many bytes of input a command takes.
+pub const INPUT_LIMIT: usize = 1_073_741_824;
+
+/// Ends the command so: its last lines are written.
+fn finish<C: LineCore, K: Sink>(core: &mut C, out: &mut K, end: Status) -> Status
+    ensures { (messages : List Msg) (taken : List ℕ) → C.heard core.old messages taken → Finishes (C.way core.old) end result messages (K.taken out.old) (K.taken out.new) (K.faults out.old) (K.faults out.new) }
+{
+    let lines = core.last_lines(end);
+    if write_all(out, lines.as_slice()) {
+        end
+    } else {
+        Status::WriteFault
+    }
+}
+
+fn run_over<C: LineCore + Drop, S: Source, K: Sink>(
+    mut core: C,
+    input: &mut S,
+    out: &mut K,
+) -> Status
+    requires ended { NotSet (S.ended input.old) }
+    requires kept { C.kept core [] [] [] }
+    requires empty { C.lines core ≡ [] }
+    requires goes { C.done core ≡ None }
+    ensures reads { Reads (C.way core) result (S.left input.old) (S.left input.new) (S.ended input.new) (K.taken out.old) (K.taken out.new) }
+    ensures stops { Stops (C.way core) (S.left input.old) (S.left_before input.new) (S.ended_before input.new) }
+    ensures causes { Causes result (S.faults input.old) (S.faults input.new) (K.faults out.old) (K.faults out.new) }
+{
+    let mut buffer = [0u8; 4096];
+    let mut total = 0;
+    while total <= INPUT_LIMIT {
+        match input.read(&mut buffer) {
+            SourceAnswer::Failed => return finish(&mut core, out, Status::ReadFault),
+            SourceAnswer::End => {
+                let end = core.status_at_end();
+                return finish(&mut core, out, end);
+            }
+            SourceAnswer::Got(n) => {
+                let kept = n.min(INPUT_LIMIT - total);
+                match core.feed(&buffer[..kept]) {
+                    Err(OutOfMemory) => {
+                        if !write_all(out, core.printed()) {
+                            return Status::WriteFault;
+                        }
+                        core.clear_printed();
+                        return finish(&mut core, out, Status::OutOfMemory);
+                    }
+                    Ok(()) => {
+                        if !write_all(out, core.printed()) {
+                            return Status::WriteFault;
+                        }
+                        core.clear_printed();
+                        match core.status() {
+                            Some(end) => return finish(&mut core, out, end),
+                            None => total += n,
+                        }
+                    }
+                }
+            }
+        }
+    }
+    finish(&mut core, out, Status::InputTooLong)
+}
+
+/// Reads frames of that end from `input`, and writes a show line for each message to `out`.
+///
+/// It ends as `Ok` where the input ends between frames; as `BadFrames` at the first bad frame, or with
+/// the reason `cut` where the input ends inside one; as `InputTooLong` where a byte after the first
+/// 1,073,741,824 was read. The lines of the messages before that are written, at `ReadFault` too; at
+/// `WriteFault` a front of them is. No read is made once one answered the end, or once the bytes read
+/// decide the end.
+pub fn run_show<S: Source, K: Sink>(alloc: Global, end: End, input: &mut S, out: &mut K) -> Status
+    requires { NotSet (S.ended input.old) }
+    ensures shows { Reads (showing end) result (S.left input.old) (S.left input.new) (S.ended input.new) (K.taken out.old) (K.taken out.new) }
+    ensures stops { Stops (showing end) (S.left input.old) (S.left_before input.new) (S.ended_before input.new) }
+    ensures causes { Causes result (S.faults input.old) (S.faults input.new) (K.faults out.old) (K.faults out.new) }
+{
+    run_over(ShowCore::new(alloc, end), input, out)
+}
+
+/// Reads frames of a server from `input`, and writes the lines of a client that injects them to `out`.
+///
+/// It ends as `Ok` at `CBYE`; as `Refused` at `EICV`, `EBSY`, `EUNK` or `EBAD`; as `BadFrames` at the
+/// first bad frame, or with the reason `cut` where the input ends inside one; as `NotYet` at the first
+/// part of a clipboard; as `Lost(Ended)` where the input ends between frames; as `InputTooLong` where a
+/// byte after the first 1,073,741,824 was read. At each end, `ReadFault` and `OutOfMemory` too, the
+/// lines of the messages before it are written, and then the ups of all that is down; at `WriteFault` a
+/// front of these is. No read is made once one answered the end, or once the bytes read decide the end.
+pub fn run_inject<S: Source, K: Sink>(alloc: Global, input: &mut S, out: &mut K) -> Status
+    requires { NotSet (S.ended input.old) }
+    ensures injects { Reads injecting result (S.left input.old) (S.left input.new) (S.ended input.new) (K.taken out.old) (K.taken out.new) }
+    ensures stops { Stops injecting (S.left input.old) (S.left_before input.new) (S.ended_before input.new) }
+    ensures released { Releases result (K.taken out.old) (K.taken out.new) }
+    ensures causes { Causes result (S.faults input.old) (S.faults input.new) (K.faults out.old) (K.faults out.new) }
+{
+    let Ok(core) = ClientCore::injecting(alloc) else {
+        unreachable!()
+    };
+    run_over(core, input, out)
+}
