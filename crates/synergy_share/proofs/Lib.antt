@@ -4,3 +4,4 @@ pub mod Showing
 pub mod Runs
 pub mod OneSplit
 pub mod Injection
+pub mod OneEnd

@@ -14,7 +14,7 @@ use Rattle.synergy_share.specs.Ways.{Way}
 use Rattle.synergy_share.specs.Begins.{IsMessage, GoesOn, Begins, IsBad, IsSettled}
 use Rattle.synergy_share.proofs.Streams.{frames-cons}
 
-small : (w : Way) (m : Msg) → IsMessage w m → length (body_of m) < 2 ^ 32
+pub small : (w : Way) (m : Msg) → IsMessage w m → length (body_of m) < 2 ^ 32
 small w m good = omega (arith, good.within)
 
 -- one message stands at the front

@@ -33,6 +33,13 @@ pub data EndsAt (w : Way) (end : Status) (read : List ℕ) (left : Option (List 
   write_fault : end ≡ status.WriteFault → EndsAt w end read left ended place rest
   no_memory : end ≡ status.OutOfMemory → EndsAt w end read left ended place rest
 
+-- an end that what was read decides: neither a fault nor want of memory
+abbrev pub IsDecided : Status → Type 0
+IsDecided status.ReadFault = ⊥
+IsDecided status.WriteFault = ⊥
+IsDecided status.OutOfMemory = ⊥
+IsDecided _ = Unit {0}
+
 -- all the lines of the messages, and those at the end
 abbrev pub all_lines : Way → List Msg → List ℕ
 all_lines w messages = w.text messages ++ w.last messages

@@ -20,7 +20,7 @@ mod top;
 
 pub use command::{Command, form};
 pub use commands::{run_inject, run_show};
-pub use laws::one_reading;
+pub use laws::{one_end, one_reading};
 pub use line_core::LineCore;
 pub use real::{StdSink, StdSource};
 pub use show_core::ShowCore;

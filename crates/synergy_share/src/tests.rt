@@ -23,6 +23,11 @@ const BYE: [u8; 8] = *b"\x00\x00\x00\x04CBYE";
 
 const CLIPBOARD: [u8; 19] = *b"\x00\x00\x00\x0fDCLP\x00\x00\x00\x00\x00\x01\x00\x00\x00\x015";
 
+const KEY_UP: [u8; 14] = *b"\x00\x00\x00\x0aDKUP\x00\x61\x00\x00\x00\x26";
+
+const INFO: [u8; 22] =
+    *b"\x00\x00\x00\x12DINF\x00\x00\x00\x00\x04\x00\x03\x00\x00\x00\x02\x00\x01\x80";
+
 const HELLO: [u8; 22] = *b"\x00\x00\x00\x12Synergy\x00\x01\x00\x06\x00\x00\x00\x03pad";
 
 const TOO_LONG: [u8; 4] = *b"\x00\x40\x00\x01";
@@ -120,6 +125,16 @@ fn injection_lets_go_at_every_end(rt: HostRuntime) {
         },
         Row {
             command: Command::Inject,
+            parts: &[&ENTER, &KEY, &KEY_UP[..13]],
+            failing: &[],
+            lines: b"enter 0 384 1 0\nkey down 97 38 0\nkey up 97 38\n",
+            status: Status::BadFrames {
+                place: 32,
+                reason: Reason::Cut,
+            },
+        },
+        Row {
+            command: Command::Inject,
             parts: &[&ENTER, &KEY, &BUTTON],
             failing: &[1],
             lines: b"",
@@ -157,6 +172,13 @@ fn messages_are_shown_in_order(rt: HostRuntime) {
                 place: 22,
                 reason: Reason::TooLong,
             },
+        },
+        Row {
+            command: Command::Show(End::Client),
+            parts: &[&HELLO, &INFO],
+            failing: &[],
+            lines: b"Synergy 1 6 706164\nDINF 0 0 1024 768 0 512 384\n",
+            status: Status::Ok,
         },
         Row {
             command: Command::Show(End::Server),
