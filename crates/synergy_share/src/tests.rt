@@ -1,7 +1,7 @@
 ghost use Rattle.std.specs.Prelude.{◌≤◌, IfOk};
 
 use super::*;
-use client_core::LostCause;
+use client_core::{LostCause, Which};
 use message_codec::End;
 use share_base::{
     MemorySink, MemorySource, OutOfMemory, Reason, Sink, SinkAnswer, Source, SourceAnswer,
@@ -154,6 +154,63 @@ fn injection_lets_go_at_every_end(rt: HostRuntime) {
 }
 
 #[test]
+fn injection_lets_go_at_refusals(rt: HostRuntime) {
+    let rows = [
+        Row {
+            command: Command::Inject,
+            parts: &[&KEY, b"\x00\x00\x00\x04EBSY"],
+            failing: &[],
+            lines: b"key down 97 38 0\nkey up 97 38\n",
+            status: Status::Refused(Which::Ebsy),
+        },
+        Row {
+            command: Command::Inject,
+            parts: &[&KEY, b"\x00\x00\x00\x04EUNK"],
+            failing: &[],
+            lines: b"key down 97 38 0\nkey up 97 38\n",
+            status: Status::Refused(Which::Eunk),
+        },
+        Row {
+            command: Command::Inject,
+            parts: &[&KEY, b"\x00\x00\x00\x04EBAD"],
+            failing: &[],
+            lines: b"key down 97 38 0\nkey up 97 38\n",
+            status: Status::Refused(Which::Ebad),
+        },
+        Row {
+            command: Command::Inject,
+            parts: &[&KEY, b"\x00\x00\x00\x08EICV\x00\x01\x00\x06"],
+            failing: &[],
+            lines: b"key down 97 38 0\nkey up 97 38\n",
+            status: Status::Refused(Which::Eicv),
+        },
+        Row {
+            command: Command::Inject,
+            parts: &[&KEY, &TOO_LONG],
+            failing: &[],
+            lines: b"key down 97 38 0\nkey up 97 38\n",
+            status: Status::BadFrames {
+                place: 14,
+                reason: Reason::TooLong,
+            },
+        },
+        Row {
+            command: Command::Inject,
+            parts: &[&KEY, b"\x00\x00\x00\x04WHAT"],
+            failing: &[],
+            lines: b"key down 97 38 0\nkey up 97 38\n",
+            status: Status::BadFrames {
+                place: 14,
+                reason: Reason::Code,
+            },
+        },
+    ];
+    for row in &rows {
+        assert_eq!(rt; passes(rt.alloc(), row), Ok(true));
+    }
+}
+
+#[test]
 fn messages_are_shown_in_order(rt: HostRuntime) {
     let rows = [
         Row {
@@ -222,11 +279,11 @@ fn messages_are_shown_in_order(rt: HostRuntime) {
 
 #[test]
 fn a_failed_read_keeps_the_lines(rt: HostRuntime) -> Result<(), Fail> {
-    let mut input = MemorySource::new(rt.alloc(), &ENTER, &[2])?;
+    let mut input = MemorySource::new(rt.alloc(), &KEY, &[2])?;
     let mut out = MemorySink::new(rt.alloc(), 1000, &[])?;
     let status = run_inject(rt.alloc(), &mut input, &mut out);
     assert_eq!(rt; status, Status::ReadFault);
-    assert_eq!(rt; out.bytes(), b"enter 0 384 1 0\n".as_slice());
+    assert_eq!(rt; out.bytes(), b"key down 97 38 0\nkey up 97 38\n".as_slice());
     Ok(())
 }
 
