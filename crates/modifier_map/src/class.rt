@@ -8,10 +8,15 @@ use share_base::KeyId;
 /// A class of modifier keys.
 #[derive(Clone, Copy, Debug, PartialEq, Eq)]
 pub enum ModClass {
+    /// Shift_L and Shift_R.
     Shift,
+    /// Control_L and Control_R.
     Control,
+    /// Alt_L and Alt_R.
     Alt,
+    /// Meta_L and Meta_R.
     Meta,
+    /// Super_L and Super_R.
     Super,
 }
 
@@ -30,7 +35,8 @@ pub struct Row {
     pub value: u32,
 }
 
-const CLASSES: [ModClass; 5] = [
+/// All classes, in the order of their values.
+pub const CLASSES: [ModClass; 5] = [
     ModClass::Shift,
     ModClass::Control,
     ModClass::Alt,

@@ -12,7 +12,7 @@ mod map;
 #[cfg(test)]
 mod tests;
 
-pub use class::ModClass;
+pub use class::{CLASSES, ModClass, key_bit};
 pub use held_mods::HeldMods;
 pub use laws::mods_are_held;
 pub use map::ModMap;

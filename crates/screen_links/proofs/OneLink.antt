@@ -18,7 +18,7 @@ clash : (one other : Link) (side : Side) (at : Landing) → Apart one other → 
 clash one other side at apart h k =
     apart (h.same_screen ∙ sym k.same_screen) (h.same_side ∙ sym k.same_side) (meet_at one other at.t h.holds k.holds)
 
-apart_at : (links : List Link) (i j : ℕ) (one other : Link) → AreApart links → i < j → j < length links → get_or links i one ≡ one → get_or links j other ≡ other → Apart one other
+pub apart_at : (links : List Link) (i j : ℕ) (one other : Link) → AreApart links → i < j → j < length links → get_or links i one ≡ one → get_or links j other ≡ other → Apart one other
 apart_at links i j one other apart lt within is_one is_other =
     let there : get_or links j one ≡ other = get_or_default links j one other within ∙ is_other in
     subst (λ (l : Link). Apart l other) is_one (subst (λ (l : Link). Apart (get_or links i one) l) there (apart i j one lt within))

@@ -2,3 +2,8 @@ pub mod ToldLists
 pub mod Digits
 pub mod ScreenBits
 pub mod FlatMaps
+pub mod Ends
+pub mod ListTests
+pub mod NameBytes
+pub mod SameNames
+pub mod SideWords

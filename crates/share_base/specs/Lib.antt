@@ -9,3 +9,4 @@ pub mod Names
 pub mod Stored
 pub mod Screens
 pub mod Shapes
+pub mod Sides

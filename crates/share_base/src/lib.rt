@@ -22,6 +22,7 @@ mod reason;
 mod screen_name;
 mod screen_set;
 mod shape;
+mod sides;
 mod sink;
 mod source;
 #[cfg(test)]

@@ -3,9 +3,13 @@
 /// A side of a screen, and the direction towards it.
 #[derive(Clone, Copy, Debug, PartialEq, Eq)]
 pub enum Side {
+    /// The left side.
     Left,
+    /// The right side.
     Right,
+    /// The upper side.
     Up,
+    /// The lower side.
     Down,
 }
 

@@ -1,4 +1,4 @@
-use Rattle.std.proofs.Common.{◌==◌, sym, refl, rules}
+use Rattle.std.proofs.Common.{◌==◌, rules}
 use Rattle.std.proofs.lemmas.Iterator.Search.{all_from_yields_List}
 use Rattle.std.proofs.lemmas.Iterator.Splits.{YieldsList-from_slice_split}
 use Rattle.share_base.specs.Names as spec
