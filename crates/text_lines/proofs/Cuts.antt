@@ -1,6 +1,6 @@
 -- A text and its first line.
-use Rattle.std.proofs.Common.{◌≡◌, ℕ, ◌+◌, ◌<◌, ◌≤◌, Bool, true, false, cond, not, ◌==◌, List, [], ◌∷◌, length, take, drop, refl, ap, subst, ◌∙◌, Option, Some, None, nat_lt, arith}
-use Rattle.std.specs.List.{position, position_or_len, slice_split, onto_first}
+use Rattle.std.proofs.Common.{◌≡◌, ℕ, ◌+◌, ◌<◌, ◌≤◌, Bool, true, false, cond, not, ◌==◌, List, [], ◌∷◌, length, take, drop, refl, ap, subst, ◌∙◌, Some, None, nat_lt, arith}
+use Rattle.std.specs.List.{position, position_or_len, slice_split}
 use Rattle.std.specs.Str.Lines.{lines, lines_of_parts, strip_carriage_return}
 use Rattle.std.proofs.lemmas.List.Splits.{slice_split_first, length-slice_split}
 use Rattle.std.proofs.lemmas.Option.{cond_some}
@@ -10,7 +10,7 @@ use borrow.Author.Tests.{ltb-true}
 abbrev is_line_feed : ℕ → Bool
 is_line_feed b = b == 10
 
-parts_again : (l : List ℕ) (parts : List (List ℕ)) → 0 < length parts → lines_of_parts (l ∷ parts) ≡ strip_carriage_return l ∷ lines_of_parts parts
+pub parts_again : (l : List ℕ) (parts : List (List ℕ)) → 0 < length parts → lines_of_parts (l ∷ parts) ≡ strip_carriage_return l ∷ lines_of_parts parts
 parts_again l [] h = absurd (omega arith)
 parts_again l (p ∷ ps) h = refl
 

@@ -1,3 +1,12 @@
+pub mod CleanWords
 pub mod Cuts
+pub mod NoNumbers
+pub mod NumbersAgain
+pub mod SpelledLiterals
+pub mod SpelledNumbers
+pub mod SpelledWords
+pub mod Stopping
 pub mod Trims
+pub mod WholeLines
 pub mod WordLists
+pub mod WordsAgain

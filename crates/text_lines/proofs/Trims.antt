@@ -1,6 +1,6 @@
 -- Blanks at the end of a line.
-use Rattle.std.proofs.Common.{◌≡◌, ℕ, ◌+◌, ◌-◌, ◌<◌, true, false, cond, ◌&&◌, List, [], ◌∷◌, ◌++◌, length, take, get_or, refl, ap, sym, ◌∙◌, take_all, arith}
-use Rattle.std.proofs.lemmas.List.{take_more}
+use Rattle.std.proofs.Common.{◌≡◌, ℕ, ◌-◌, ◌<◌, true, false, cond, ◌&&◌, List, [], ◌∷◌, ◌++◌, length, take, get_or, refl, ap, sym, ◌∙◌, arith}
+use Rattle.share_base.proofs.Ends.{front_and_last}
 use Rattle.text_lines.specs.Bytes.{is_blank}
 use Rattle.text_lines.specs.Reading.{is_empty}
 use Rattle.text_lines.specs.Lines.{trimmed}
@@ -20,12 +20,6 @@ trimmed_solid [] b h = rw h refl
 trimmed_solid (x ∷ xs) b h =
     rw (trimmed_solid xs b h, trimmed_some xs b)
     (elim (is_blank x) as (λ t. cond (t && false) [] (x ∷ (xs ++ b ∷ [])) ≡ x ∷ (xs ++ b ∷ [])) [ true ↦ refl | false ↦ refl ])
-
--- a list is its front and its last byte
-pub front_and_last : (xs : List ℕ) → 0 < length xs → xs ≡ take (length xs - 1) xs ++ get_or xs (length xs - 1) 0 ∷ []
-front_and_last xs h =
-    let whole : length xs - 1 + 1 ≡ length xs = omega arith in
-    sym (take_all (length xs) xs (omega arith)) ∙ ap (λ n. take n xs) (sym whole) ∙ take_more xs (length xs - 1) 0 (omega arith)
 
 pub trimmed_cut : (xs : List ℕ) → 0 < length xs → is_blank (get_or xs (length xs - 1) 0) ≡ true → trimmed (take (length xs - 1) xs) ≡ trimmed xs
 trimmed_cut xs h e = sym (ap trimmed (front_and_last xs h) ∙ trimmed_blank (take (length xs - 1) xs) (get_or xs (length xs - 1) 0) e)

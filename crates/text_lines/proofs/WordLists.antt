@@ -1,5 +1,5 @@
 -- The words of a text, from its front.
-use Rattle.std.proofs.Common.{◌≡◌, ℕ, zero, suc, ◌+◌, ◌-◌, ◌<◌, ◌≤◌, Bool, true, false, cond, not, List, [], ◌∷◌, length, take, drop, get_or, refl, ap, sym, ◌∙◌, take_all, nat_lt, arith}
+use Rattle.std.proofs.Common.{◌≡◌, ℕ, zero, suc, ◌+◌, ◌<◌, ◌≤◌, Bool, true, false, cond, not, List, [], ◌∷◌, length, take, drop, get_or, refl, ap, sym, ◌∙◌, take_all, nat_lt, arith}
 use Rattle.std.specs.Prelude.{filter}
 use Rattle.std.specs.List.{prefix_len, position_or_len, slice_split}
 use Rattle.std.proofs.lemmas.List.{drop_all}

@@ -19,6 +19,10 @@ takes kind.Solid b = not (is_blank b)
 takes kind.Key b = is_ascii_alphanumeric b
 takes kind.Name b = not (is_blank b || (b == 40) || (b == 41) || (b == 44) || (b == 61) || (b == 58))
 takes kind.Side b = not (is_blank b || (b == 40) || (b == 61))
+takes kind.Action b = not (is_blank b || (b == 40))
+takes kind.Argument b = not (b == 41)
+takes kind.Choice b = not (is_blank b || (b == 41))
+takes kind.Chord b = not (is_blank b || (b == 41) || (b == 43))
 
 -- the longest front of bytes that pass, and what follows it
 abbrev pub front : (ℕ → Bool) → List ℕ → List ℕ

@@ -4,4 +4,5 @@ pub mod Lines
 pub mod Numbers
 pub mod Reading
 pub mod Seen
+pub mod Spelling
 pub mod Words

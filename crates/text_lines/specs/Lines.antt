@@ -1,5 +1,5 @@
 -- What of a line counts.
-use Rattle.std.specs.Prelude.{ℕ, Bool, not, ◌==◌, ◌&&◌, if◌then◌else◌, List, [], ◌∷◌, length, take, Option, Some, None}
+use Rattle.std.specs.Prelude.{ℕ, not, ◌==◌, ◌&&◌, if◌then◌else◌, List, [], ◌∷◌, length, take, Option, Some, None}
 use Rattle.std.specs.List.{position}
 use Rattle.text_lines.specs.Bytes.{is_blank, is_allowed, unblanked}
 use Rattle.text_lines.specs.Reading.{is_empty}

@@ -39,6 +39,11 @@ unfoldable pub sign_at : ℕ → List ℕ → Result (List ℕ) ℕ
 sign_at c [] = Err 0
 sign_at c (b ∷ bs) = if b == c then Ok (unblanked bs) else Err (length (b ∷ bs))
 
+-- what follows one sign and the blanks behind it, where the sign stands there
+unfoldable pub maybe_sign_at : ℕ → List ℕ → Option (List ℕ)
+maybe_sign_at c [] = None
+maybe_sign_at c (b ∷ bs) = if b == c then Some (unblanked bs) else None
+
 -- these bytes, one by one
 unfoldable pub literal_at : List ℕ → List ℕ → Result (List ℕ) ℕ
 literal_at [] xs = Ok xs

@@ -1,5 +1,4 @@
 -- What the code's borrowed values stand for.
-use Rattle.std.specs.Prelude.{ℕ}
 use Rattle.text_lines.specs.declared.word_reading.Word as code_word
 use Rattle.text_lines.specs.declared.lines.TextLine.{TextLine}
 use Rattle.text_lines.specs.declared.lines.TextLine.TheVariants as line

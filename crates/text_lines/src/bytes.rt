@@ -15,6 +15,14 @@ pub enum WordKind {
     Name,
     /// All but blanks and the signs `(` and `=`. A side is read so.
     Side,
+    /// All but blanks and `(`. An action is read so.
+    Action,
+    /// All but `)`. What stands in brackets is read so.
+    Argument,
+    /// All but blanks and `)`. A word in brackets is read so.
+    Choice,
+    /// All but blanks, `)` and `+`. A word of a sum in brackets is read so.
+    Chord,
 }
 
 impl WordKind {
@@ -34,6 +42,10 @@ impl WordKind {
                     || byte == b':')
             }
             WordKind::Side => !(is_blank(byte) || byte == b'(' || byte == b'='),
+            WordKind::Action => !(is_blank(byte) || byte == b'('),
+            WordKind::Argument => byte != b')',
+            WordKind::Choice => !(is_blank(byte) || byte == b')'),
+            WordKind::Chord => !(is_blank(byte) || byte == b')' || byte == b'+'),
         }
     }
 }

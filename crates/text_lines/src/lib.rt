@@ -19,4 +19,4 @@ mod word_reading;
 pub use bytes::{WordKind, unblanked, word_len};
 pub use decimal_text::decimal;
 pub use lines::{TextLine, cut_line, text_line};
-pub use word_reading::{Word, end, literal, number, run, sign, whole_word};
+pub use word_reading::{Word, begins, end, literal, maybe_sign, number, run, sign, whole_word};

@@ -1,6 +1,7 @@
 //! Words, signs and numbers of a line, read from left to right.
 
 ghost use Rattle.std.specs.Prelude.{◌≡◌, ◌<◌, ◌≤◌, ◌+◌, ◌*◌, IfOk, length};
+ghost use Rattle.std.specs.Option.{option_copied};
 ghost use Rattle.text_lines.specs.Bytes.{takes, front, behind};
 ghost use Rattle.text_lines.specs.Reading as spec;
 ghost use Rattle.text_lines.specs.Reading.{Gives};
@@ -29,6 +30,33 @@ pub fn sign(bytes: &[u8], wanted: u8) -> Result<&[u8], usize>
                 Ok(unblanked(rest))
             } else {
                 Err(bytes.len())
+            }
+        }
+    }
+}
+
+/// Whether that sign stands there.
+pub fn begins(bytes: &[u8], wanted: u8) -> bool
+    ensures { result ≡ spec.begins wanted bytes.now }
+{
+    match bytes {
+        [] => false,
+        [byte, ..] => *byte == wanted,
+    }
+}
+
+/// What follows one sign and the blanks behind it. `None` comes exactly where the sign doesn't stand there.
+#[tactic(auto, unfolding(crate::specs::Reading::maybe_sign_at))]
+pub fn maybe_sign(bytes: &[u8], wanted: u8) -> Option<&[u8]>
+    ensures { option_copied result ≡ spec.maybe_sign_at wanted bytes.now }
+{
+    match bytes {
+        [] => None,
+        [byte, rest @ ..] => {
+            if *byte == wanted {
+                Some(unblanked(rest))
+            } else {
+                None
             }
         }
     }

@@ -1,6 +1,5 @@
-use Rattle.std.proofs.Common.{◌≡◌, ◌∷◌, List, ℕ, sym, ap, ◌∙◌}
+use Rattle.std.proofs.Common.{sym}
 use Rattle.std.proofs.lemmas.List.{take_rest}
-use Rattle.std.specs.Str.Lines.{lines}
 use Rattle.text_lines.proofs.Cuts.{lines_none, lines_some}
 use Rattle.text_lines.proofs.lines.cut_line.Goals as goal
 

@@ -1,7 +1,6 @@
-use Rattle.std.proofs.Common.{◌≡◌, ℕ, min, ◌∙◌, sym, arith, true, false, get_or, length, take, ◌-◌, ◌≤◌}
+use Rattle.std.proofs.Common.{◌≡◌, ℕ, min, ◌∙◌, sym, arith, true, false, get_or, length, ◌-◌, ◌≤◌}
 use Rattle.std.proofs.lemmas.List.{length-take}
 use Rattle.text_lines.specs.Bytes as bytes
-use Rattle.text_lines.specs.Lines.{trimmed}
 use Rattle.text_lines.proofs.Trims.{trimmed_cut, trimmed_none, trimmed_whole}
 use Rattle.text_lines.proofs.lines.trimmed.Goals as goal
 
