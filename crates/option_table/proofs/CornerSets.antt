@@ -5,7 +5,6 @@ use Rattle.text_lines.specs.declared.bytes.WordKind.TheVariants as kind
 use Rattle.text_lines.specs.Bytes.{takes, front, behind, unblanked, is_tight}
 use Rattle.text_lines.specs.Words.{words_of}
 use Rattle.text_lines.proofs.WordLists.{words_first, words_unblanked, unblanked_tight}
-use Rattle.std.proofs.lemmas.Bool.{eqb-true}
 use Rattle.option_table.specs.Corners.{after_words, of_words, corners_of_text, and_then, after_word}
 
 pub or_small : (a b : ℕ) → a ≤ 15 → b ≤ 15 → bit_or a b ≤ 15
@@ -36,10 +35,6 @@ no_text = refl
 pub after_nothing : (set : ℕ) → after_words set (words_of []) ≡ Some set
 unfolding words_of
 after_nothing set = refl
-
-pub is_nil : (xs : List ℕ) → true ≡ (length xs == 0) → xs ≡ []
-is_nil [] e = refl
-is_nil (x ∷ xs) e = let n : length (x ∷ xs) ≡ 0 = eqb-true _ _ (sym e) in absurd (omega arith)
 
 pub is_some : (xs : List ℕ) → false ≡ (length xs == 0) → 0 < length xs
 is_some [] e = absurd cc

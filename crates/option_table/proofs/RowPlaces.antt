@@ -1,6 +1,9 @@
 -- Rows by their places.
-use Rattle.std.proofs.Common.{◌≡◌, true, Some, refl}
+use Rattle.std.proofs.Common.{◌≡◌, Bool, true, Some, refl, ap, sym, ◌∙◌}
 use Rattle.std.specs.Prelude.{slice_get}
+use Rattle.std.specs.List.{list_all}
+use Rattle.std.proofs.lemmas.Option.{same_Some}
+use Rattle.share_base.proofs.ListTests.{all_at}
 use Rattle.option_table.specs.declared.rows.OptionName.{OptionName}
 use Rattle.option_table.specs.declared.rows.OptionName.TheVariants as option
 use Rattle.option_table.specs.Table.{options, row_of}
@@ -35,31 +38,14 @@ row_at_place option.DisableLockToScreen = refl
 row_at_place option.DefaultLockToScreenState = refl
 row_at_place option.Protocol = refl
 
+-- what every row of the table passes, each option's row passes
+pub each_row : (p : OptionName → Bool) → list_all p options ≡ true → (o : OptionName) → p o ≡ true
+each_row p all o = all_at p options (place_of o) o all (row_at_place o)
+
+-- no two options stand at one place
+pub one_place : (o q : OptionName) → place_of o ≡ place_of q → o ≡ q
+one_place o q e = same_Some o q (sym (row_at_place o) ∙ ap (slice_get options) e ∙ row_at_place q)
+
 pub default_suits : (o : OptionName) → suits (row_of o).form (row_of o).default ≡ true
 unfolding row_of
-default_suits option.HalfDuplexCapsLock = refl
-default_suits option.HalfDuplexNumLock = refl
-default_suits option.HalfDuplexScrollLock = refl
-default_suits option.Shift = refl
-default_suits option.Ctrl = refl
-default_suits option.Alt = refl
-default_suits option.Meta = refl
-default_suits option.SuperKey = refl
-default_suits option.XtestIsXineramaUnaware = refl
-default_suits option.PreserveFocus = refl
-default_suits option.Heartbeat = refl
-default_suits option.SwitchDelay = refl
-default_suits option.SwitchDoubleTap = refl
-default_suits option.SwitchCorners = refl
-default_suits option.SwitchCornerSize = refl
-default_suits option.RelativeMouseMoves = refl
-default_suits option.ClipboardSharing = refl
-default_suits option.ClipboardSharingSize = refl
-default_suits option.ScreenSaverSync = refl
-default_suits option.SwitchNeedsShift = refl
-default_suits option.SwitchNeedsControl = refl
-default_suits option.SwitchNeedsAlt = refl
-default_suits option.Win32KeepForeground = refl
-default_suits option.DisableLockToScreen = refl
-default_suits option.DefaultLockToScreenState = refl
-default_suits option.Protocol = refl
+default_suits o = each_row (λ o. suits (row_of o).form (row_of o).default) refl o

@@ -2,7 +2,7 @@
 use Rattle.std.specs.Prelude.{ℕ, ◌-◌, ◌==◌, if◌then◌else◌, List, [], ◌∷◌, drop, Option, Some, None, codes, bit_and, bit_or}
 use Rattle.std.specs.List.{find}
 use Rattle.std.specs.Str.{bytes_eq}
-use Rattle.text_lines.specs.Reading.{begins, is_empty}
+use Rattle.text_lines.specs.Reading.{begins}
 use Rattle.text_lines.specs.Words.{words_of}
 use Rattle.option_table.specs.declared.corners.CornerWord.{CornerWord}
 use Rattle.option_table.specs.declared.corners.CornerWord.TheVariants as corner

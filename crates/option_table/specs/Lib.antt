@@ -4,6 +4,7 @@ pub mod Printed
 pub mod Seen
 pub mod SeenCorners
 pub mod Settings
+pub mod Standing
 pub mod Table
 pub mod Values
 pub mod Wire

@@ -7,6 +7,7 @@
 #![tactic(auto)]
 
 mod corners;
+mod laws;
 mod printing;
 mod rows;
 mod settings;
@@ -16,6 +17,7 @@ mod values;
 mod wire;
 
 pub use corners::CornerWord;
+pub use laws::printed_option_is_read;
 pub use printing::{put_number, put_option_lines};
 pub use rows::{OPTIONS, OptionName, Row, Scope, ValueForm};
 pub use settings::Settings;

@@ -1,6 +1,6 @@
 //! Options as they are printed.
 
-ghost use Rattle.std.specs.Prelude.{◌≡◌, ◌≤◌, ◌<◌, ◌++◌, ◌∷◌, [], OnOk, Some, slice_get, length, true};
+ghost use Rattle.std.specs.Prelude.{◌≡◌, ◌≤◌, ◌<◌, ◌++◌, ◌∷◌, [], OnOk, OnErr, Some, slice_get, length, true};
 ghost use Rattle.std.specs.Fmt.{decimal};
 ghost use Rattle.option_table.specs.Values.{suits, words_of_form};
 ghost use Rattle.option_table.specs.Table.{row_of};
@@ -20,7 +20,8 @@ const CORNERS: [CornerWord; 4] = [
 
 /// Adds a number in decimal digits. After `OutOfMemory` nothing was added.
 pub fn put_number(number: u32, out: &mut Octets) -> Result<(), OutOfMemory>
-    ensures { OnOk result (out.new ≡ out.old ++ decimal number) }
+    ensures ok { OnOk result (out.new ≡ out.old ++ decimal number) }
+    ensures err { OnErr result (out.new ≡ out.old) }
 {
     let mut digits = Lines::new();
     put_u32(&mut digits, number);

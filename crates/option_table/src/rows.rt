@@ -9,31 +9,57 @@ ghost use Rattle.option_table.specs.Seen.{row_text};
 /// An option, in the order of the table.
 #[derive(Clone, Copy, Debug, PartialEq, Eq)]
 pub enum OptionName {
+    /// `halfDuplexCapsLock`
     HalfDuplexCapsLock,
+    /// `halfDuplexNumLock`
     HalfDuplexNumLock,
+    /// `halfDuplexScrollLock`
     HalfDuplexScrollLock,
+    /// `shift`
     Shift,
+    /// `ctrl`
     Ctrl,
+    /// `alt`
     Alt,
+    /// `meta`
     Meta,
+    /// `super`
     SuperKey,
+    /// `xtestIsXineramaUnaware`
     XtestIsXineramaUnaware,
+    /// `preserveFocus`
     PreserveFocus,
+    /// `heartbeat`
     Heartbeat,
+    /// `switchDelay`
     SwitchDelay,
+    /// `switchDoubleTap`
     SwitchDoubleTap,
+    /// `switchCorners`
     SwitchCorners,
+    /// `switchCornerSize`
     SwitchCornerSize,
+    /// `relativeMouseMoves`
     RelativeMouseMoves,
+    /// `clipboardSharing`
     ClipboardSharing,
+    /// `clipboardSharingSize`
     ClipboardSharingSize,
+    /// `screenSaverSync`
     ScreenSaverSync,
+    /// `switchNeedsShift`
     SwitchNeedsShift,
+    /// `switchNeedsControl`
     SwitchNeedsControl,
+    /// `switchNeedsAlt`
     SwitchNeedsAlt,
+    /// `win32KeepForeground`
     Win32KeepForeground,
+    /// `disableLockToScreen`
     DisableLockToScreen,
+    /// `defaultLockToScreenState`
     DefaultLockToScreenState,
+    /// `protocol`
     Protocol,
 }
 

@@ -1,9 +1,8 @@
-use Rattle.std.proofs.Common.{◌≡◌, ℕ, ◌<◌, true, false, List, [], length, take, drop, Some, None, ap, sym, ◌∙◌, subst, arith}
-use Rattle.text_lines.specs.Bytes.{unblanked}
+use Rattle.std.proofs.Common.{ℕ, ◌<◌, List, length, take, drop, ap, sym, ◌∙◌, arith}
 use Rattle.text_lines.specs.Words.{words_of}
-use Rattle.text_lines.proofs.WordLists.{unblanked_tight}
-use Rattle.option_table.specs.Corners.{after_words, and_then, corners_of_text}
-use Rattle.option_table.proofs.CornerSets.{some_words, no_words, one_word, no_text, is_nil, is_some, tight_like, after_nothing, word_taken, word_refused}
+use Rattle.option_table.specs.Corners.{after_words}
+use Rattle.share_base.proofs.Ends.{is_nil}
+use Rattle.option_table.proofs.CornerSets.{some_words, no_words, no_text, is_some, tight_like, after_nothing, word_taken, word_refused}
 use Rattle.option_table.proofs.corners.corners.Goals as goal
 
 pub returns-then-is_empty-clause-gives : goal.returns-then-is_empty-clause-gives

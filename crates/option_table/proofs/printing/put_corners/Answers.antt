@@ -1,7 +1,6 @@
 use Rattle.std.proofs.Common.{arith}
 use Rattle.share_base.proofs.FlatMaps.{part_added}
-use Rattle.option_table.specs.Table.{options}
-use Rattle.option_table.specs.Printed.{corner_text, single_corners, option_line}
+use Rattle.option_table.specs.Printed.{corner_text, single_corners}
 use Rattle.option_table.proofs.printing.put_corners.Goals as goal
 
 pub loop-corner-preserved : goal.loop-corner-preserved

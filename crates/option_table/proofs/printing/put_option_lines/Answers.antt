@@ -1,7 +1,7 @@
 use Rattle.std.proofs.Common.{arith}
 use Rattle.share_base.proofs.FlatMaps.{part_added}
 use Rattle.option_table.specs.Table.{options}
-use Rattle.option_table.specs.Printed.{corner_text, single_corners, option_line}
+use Rattle.option_table.specs.Printed.{option_line}
 use Rattle.option_table.proofs.printing.put_option_lines.Goals as goal
 
 pub loop-option-preserved : goal.loop-option-preserved
