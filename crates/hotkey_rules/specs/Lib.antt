@@ -1,0 +1,3 @@
+pub mod KeyNames
+pub mod Rules
+pub mod Triggers
