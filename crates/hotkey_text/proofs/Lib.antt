@@ -1,0 +1,11 @@
+pub mod ActionLists
+pub mod ActionsAgain
+pub mod ArgumentBytes
+pub mod ChordsAgain
+pub mod KeysAgain
+pub mod LineBytes
+pub mod LinesAgain
+pub mod ListsAgain
+pub mod ModSteps
+pub mod SpelledWords
+pub mod WordsFound

@@ -1,0 +1,12 @@
+pub mod Again
+pub mod Arguments
+pub mod Chords
+pub mod Faults
+pub mod Keys
+pub mod Lists
+pub mod LockModes
+pub mod Names
+pub mod Printed
+pub mod Seen
+pub mod Shapes
+pub mod Spelled

@@ -1,0 +1,38 @@
+//! The text of hotkeys: how a line of one is read, and how it is printed again.
+//!
+//! A line is read in two steps. Its form comes first, and where the form can't go on the whole line is
+//! refused. Then the words of its arguments are judged from left to right. Each refusal says how many
+//! bytes of the line were left where it stands.
+//!
+//! It owns the form of the line (`specs/Shapes.antt`), the words of actions (`specs/Names.antt`), keys
+//! (`specs/Keys.antt`), modifiers and what stands behind them (`specs/Chords.antt`), arguments
+//! (`specs/Arguments.antt`), the printed form (`specs/Printed.antt`) and what is read of it again
+//! (`specs/Again.antt`). It may know no other line of a configuration, and no screen: it hands a screen's
+//! word on.
+#![tactic(auto)]
+
+mod arguments;
+mod chords;
+mod faults;
+mod forms;
+mod keys;
+mod laws;
+mod lists;
+mod lock_modes;
+mod meaning;
+mod mod_reading;
+mod names;
+mod printing;
+mod shapes;
+#[cfg(test)]
+mod tests;
+
+pub use arguments::{ActionWords, ScreenWord};
+pub use faults::{HotkeyFault, HotkeyKind};
+pub use forms::ActionForm;
+pub use laws::{chords_again, key_again, line_again, words_again};
+pub use lists::ActionList;
+pub use meaning::{action_words, trigger};
+pub use names::{Deed, TriggerKind};
+pub use printing::{between, put_action, put_trigger};
+pub use shapes::{HotkeyForm, hotkey, is_hotkey};
