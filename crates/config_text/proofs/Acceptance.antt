@@ -1,5 +1,5 @@
 -- Reading as a function, and as a relation on lines: each the other.
-use Rattle.std.proofs.Common.{◌≡◌, ℕ, ◌+◌, List, [], ◌∷◌, ◌++◌, length, Result, Ok, Err, Option, Some, None, refl, ap, sym, subst, ◌∙◌, arith, ◌⊎◌, inl, inr, zero-add}
+use Rattle.std.proofs.Common.{◌≡◌, ℕ, ◌+◌, List, [], ◌∷◌, ◌++◌, length, Result, Ok, Err, Option, Some, None, refl, ap, sym, ◌∙◌, arith, ◌⊎◌, inl, inr, zero-add}
 use Rattle.std.specs.Str.Lines.{lines}
 use Rattle.text_lines.specs.Reading.{◌>>=◌}
 use Rattle.config_text.specs.declared.faults.ConfigKind.TheVariants as kind
@@ -16,7 +16,7 @@ Step = Result Draft ConfigRefusal
 abbrev Whole : Type 0
 Whole = Result Configuration ConfigRefusal
 
-after_good : {B : Type 0} (r : Step) (f : Draft → Result B ConfigRefusal) (y : B) → (r >>= f) ≡ Ok y → (x : Draft) × (r ≡ Ok x) × (f x ≡ Ok y)
+pub after_good : {B : Type 0} (r : Step) (f : Draft → Result B ConfigRefusal) (y : B) → (r >>= f) ≡ Ok y → (x : Draft) × (r ≡ Ok x) × (f x ≡ Ok y)
 after_good (Ok x) f y e = (x, refl, e)
 after_good (Err d) f y e = absurd cc
 

@@ -1,7 +1,6 @@
 -- Reading goes on behind a good line, and stops at the first that offends.
-use Rattle.std.proofs.Common.{◌≡◌, ℕ, ◌+◌, List, [], ◌∷◌, Result, Ok, Err, true, ◌==◌, length, arith, refl, ap, sym, ◌∙◌}
+use Rattle.std.proofs.Common.{◌≡◌, ℕ, ◌+◌, List, [], ◌∷◌, Result, Ok, Err, ap, ◌∙◌}
 use Rattle.std.specs.Str.Lines.{lines}
-use Rattle.std.proofs.lemmas.Bool.{eqb-true}
 use Rattle.config_text.specs.declared.faults.ConfigRefusal.{ConfigRefusal}
 use Rattle.config_text.specs.declared.faults.ConfigFault.{ConfigFault}
 use Rattle.config_text.specs.declared.faults.ConfigFault.TheVariants as fault
@@ -22,10 +21,6 @@ pub stops : (f : ConfigFault) (text l rest : List ℕ) (n : ℕ) (d : Draft) (wh
     → whole ≡ read_lines n d (lines text) → Fails f (judged n d l) → Fails f whole
 stops (fault.Refused r) text l rest n d whole h w j = w ∙ stops_at text l rest n d r h j
 stops fault.OutOfMemory text l rest n d whole h w j = tt
-
-pub is_nil : (xs : List ℕ) → true ≡ (length xs == 0) → xs ≡ []
-is_nil [] e = refl
-is_nil (x ∷ xs) e = let n : length (x ∷ xs) ≡ 0 = eqb-true _ _ (sym e) in absurd (omega arith)
 
 pub at_end : (n : ℕ) (d : Draft) (text : List ℕ) → text ≡ [] → read_lines n d (lines text) ≡ Ok d
 unfolding read_lines

@@ -1,8 +1,7 @@
 -- A link overlaps another, as a test and as a fact.
-use Rattle.std.proofs.Common.{◌≡◌, ℕ, zero, suc, ◌<◌, ◌≤◌, Bool, true, false, ◌&&◌, ◌||◌, ◌==◌, List, [], ◌∷◌, length, get_or, min, max, refl, ap, sym, subst, ◌∙◌, nat_lt, arith}
-use Rattle.std.specs.Prelude.{Any}
+use Rattle.std.proofs.Common.{◌≡◌, ℕ, zero, suc, ◌<◌, Bool, true, false, ◌&&◌, ◌||◌, ◌==◌, List, [], ◌∷◌, length, get_or, min, max, refl, ap, sym, ◌∙◌, nat_lt, arith}
 use Rattle.std.specs.List.{list_any}
-use Rattle.std.proofs.lemmas.Bool.{lt-ltb, eqb-true, false_from_ne_true}
+use Rattle.std.proofs.lemmas.Bool.{lt-ltb, eqb-true, false_from_ne_true, and_parts}
 use Rattle.std.proofs.Common.{eq-eqb}
 use borrow.Author.Tests.{ltb-true}
 use Rattle.share_base.specs.declared.shape.Side.{Side}
@@ -11,7 +10,6 @@ use Rattle.share_base.specs.declared.numbers.ScreenNo.{ScreenNo}
 use Rattle.screen_links.specs.declared.link.Link.{Link}
 use Rattle.screen_links.specs.Adding.{Blocks, Overlaps, IsFree}
 use Rattle.config_text.specs.Judging.{overlaps, same_side}
-use Rattle.config_text.proofs.Bounds.{both_true}
 
 or_right : (a b : Bool) → b ≡ true → (a || b) ≡ true
 or_right true b e = refl
@@ -36,13 +34,13 @@ pub any_found : {A : Type 0} (p : A → Bool) (xs : List A) → list_any p xs �
 any_found p [] h = absurd cc
 any_found p (y ∷ ys) h = found_by (p y) p y ys refl (any_found p ys) h
 
-same_side_refl : (s : Side) → same_side s s ≡ true
+pub same_side_refl : (s : Side) → same_side s s ≡ true
 same_side_refl Left = refl
 same_side_refl Right = refl
 same_side_refl Up = refl
 same_side_refl Down = refl
 
-one_side : (s t : Side) → same_side s t ≡ true → t ≡ s
+pub one_side : (s t : Side) → same_side s t ≡ true → t ≡ s
 one_side Left Left e = refl
 one_side Left Right e = absurd cc
 one_side Left Up e = absurd cc
@@ -75,8 +73,8 @@ blocks_overlaps l k b =
 pub overlaps_blocks : (l k : Link) → overlaps l k ≡ true → Blocks k l.from l.side l.range
 unfolding overlaps
 overlaps_blocks l k e =
-    let outer = both_true ((l.from.0 == k.from.0) && same_side l.side k.side) (nat_lt (max l.range.a k.range.a) (min l.range.b k.range.b)) e in
-    let inner = both_true (l.from.0 == k.from.0) (same_side l.side k.side) outer.0 in
+    let outer = and_parts ((l.from.0 == k.from.0) && same_side l.side k.side) (nat_lt (max l.range.a k.range.a) (min l.range.b k.range.b)) e in
+    let inner = and_parts (l.from.0 == k.from.0) (same_side l.side k.side) outer.0 in
     let number : l.from.0 ≡ k.from.0 = eqb-true _ _ inner.0 in
     let less : max l.range.a k.range.a < min l.range.b k.range.b = ltb-true _ _ outer.1 in
     record {

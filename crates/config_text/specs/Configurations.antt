@@ -1,10 +1,12 @@
--- What a configuration holds: screens, aliases and links in the order of the text, and the options for all screens.
-use Rattle.std.specs.Prelude.{◌≡◌, ℕ, Bool, List, [], ◌∷◌, ◌++◌, Option, Some, None, slice_get, slice_set}
+-- What a configuration holds: screens, aliases, links and hotkeys in the order of the text, and the options for all
+-- screens.
+use Rattle.std.specs.Prelude.{ℕ, List, [], ◌∷◌, ◌++◌, Option, Some, None, slice_get, slice_set}
 use Rattle.std.specs.Option.{option_map}
 use Rattle.std.specs.List.{position, find}
 use Rattle.share_base.specs.Names.{same_name}
 use Rattle.screen_links.specs.declared.link.Link.{Link}
 use Rattle.option_table.specs.declared.rows.OptionName.{OptionName}
+use Rattle.hotkey_rules.specs.declared.rule.Rule.{Rule}
 use Rattle.option_table.specs.Settings.{Values, none_set, with_setting}
 use Rattle.config_text.specs.declared.screens.Screen.{Screen}
 use Rattle.config_text.specs.declared.screens.Alias.{Alias}
@@ -14,9 +16,10 @@ pub record Configuration : Type 0 where
   pub aliases : List Alias
   pub links : List Link
   pub settings : Values
+  pub hotkeys : List Rule
 
 abbrev pub nothing : Configuration
-nothing = record { screens = []; aliases = []; links = []; settings = none_set }
+nothing = record { screens = []; aliases = []; links = []; settings = none_set; hotkeys = [] }
 
 -- the place of the screen of that name, and the screen whose alias the name is
 abbrev pub screen_place : List Screen → List ℕ → Option ℕ
@@ -43,6 +46,9 @@ with_alias c name screen = record c { aliases = c.aliases ++ (record { name = na
 
 abbrev pub with_link : Configuration → Link → Configuration
 with_link c link = record c { links = c.links ++ link ∷ [] }
+
+abbrev pub with_hotkey : Configuration → Rule → Configuration
+with_hotkey c rule = record c { hotkeys = c.hotkeys ++ rule ∷ [] }
 
 abbrev pub with_global : Configuration → OptionName → ℕ → Configuration
 with_global c option value = record c { settings = with_setting c.settings option value }

@@ -6,7 +6,7 @@ use Rattle.option_table.specs.Settings.{Values, setting, standing}
 use Rattle.option_table.specs.Wire as wire
 use Rattle.option_table.specs.Settings.{none_set}
 use Rattle.config_text.specs.declared.globals.Globals.{Globals}
-use Rattle.config_text.specs.declared.globals.Corners.{Corners}
+use Rattle.share_base.specs.declared.corners.Corners.{Corners}
 use Rattle.config_text.specs.declared.globals.Protocol.{Protocol}
 use Rattle.config_text.specs.declared.globals.Protocol.TheVariants as protocol
 use Rattle.config_text.specs.declared.screens.Screen.{Screen}

@@ -1,6 +1,6 @@
 -- The faults of a line's words, in the order in which they are looked for: a name that is none, then the rest, then
 -- ranges, then an overlap, then a limit. Of two of one class the one further to the left comes first.
-use Rattle.std.specs.Prelude.{◌≡◌, ℕ, ◌-◌, Bool, true, false, not, ◌==◌, ◌&&◌, ◌||◌, nat_lt, nat_le, min, max, List, length, Result, Ok, Err, Option, Some, None, is_some, is_none}
+use Rattle.std.specs.Prelude.{ℕ, Bool, true, false, not, ◌==◌, ◌&&◌, nat_lt, nat_le, min, max, length, Result, Ok, Err, Option, Some, None, is_none}
 use Rattle.std.specs.List.{list_any}
 use Rattle.share_base.specs.declared.shape.Side.{Side}
 use Rattle.share_base.specs.declared.shape.Side.TheVariants as side
@@ -8,9 +8,7 @@ use Rattle.share_base.specs.Names.{is_name}
 use Rattle.text_lines.specs.Reading.{◌>>=◌, Text}
 use Rattle.screen_links.specs.declared.link.Link.{Link}
 use Rattle.screen_links.specs.declared.range.Range.{Range}
-use Rattle.option_table.specs.declared.rows.OptionName.{OptionName}
 use Rattle.option_table.specs.declared.rows.Scope.{Scope}
-use Rattle.option_table.specs.declared.rows.Scope.TheVariants as scope
 use Rattle.option_table.specs.Table.{option_named, row_of}
 use Rattle.option_table.specs.Values.{value_of}
 use Rattle.config_text.specs.declared.faults.ConfigKind.{ConfigKind}
@@ -83,27 +81,21 @@ overlaps l k = (l.from.0 == k.from.0) && same_side l.side k.side && nat_lt (max 
 abbrev pub link_of : ℕ → Side → Range → ℕ → Range → Link
 link_of from s range to onto = record { from = record { 0 = from }; side = s; range = range; to = record { 0 = to }; onto = onto }
 
+-- the link, whose side stands there, overlaps none of its side, and there is room for it
+unfoldable pub one_link_more : ℕ → Configuration → ℕ → Link → Result Configuration Fault
+one_link_more whole c left link = do
+  _ ← unless (not (list_any (overlaps link) c.links)) kind.Overlap left
+  _ ← unless (nat_lt (length c.links) 1024) kind.TooMany whole
+  Ok (with_link c link)
+
 unfoldable pub new_link : ℕ → Configuration → ℕ → LinkText → Result Configuration Fault
 new_link whole c from l = do
   to ← known_screen c l.name
   range ← good_range l.source
   onto ← good_range l.target
-  _ ← unless (not (list_any (overlaps (link_of from l.side range to onto)) c.links)) kind.Overlap l.left
-  _ ← unless (nat_lt (length c.links) 1024) kind.TooMany whole
-  Ok (with_link c (link_of from l.side range to onto))
+  one_link_more whole c l.left (link_of from l.side range to onto)
 
 -- ---- options
-
--- whether an option of that scope may stand below a screen's header, or among those for all
-abbrev pub stands_below_screen : Scope → Bool
-stands_below_screen scope.Screen = true
-stands_below_screen scope.Global = false
-stands_below_screen scope.Both = true
-
-abbrev pub stands_for_all : Scope → Bool
-stands_for_all scope.Screen = false
-stands_for_all scope.Global = true
-stands_for_all scope.Both = true
 
 unfoldable pub new_setting : (Scope → Bool) → SettingText → Result Setting Fault
 new_setting stands s = do

@@ -2,17 +2,20 @@
 use Rattle.std.specs.Prelude.{ℕ, ◌-◌, Bool, not, ◌==◌, ◌&&◌, if◌then◌else◌, List, [], ◌∷◌, length, Result, Ok, Err, Option, Some, None, codes, slice_index}
 use Rattle.std.specs.List.{list_any, find}
 use Rattle.std.specs.Str.{bytes_eq}
-use Rattle.text_lines.specs.Reading.{◌>>=◌, Text}
+use Rattle.text_lines.specs.Reading.{◌>>=◌}
+use Rattle.option_table.specs.Standing.{stands_below_screen, stands_for_all}
 use Rattle.config_text.specs.declared.faults.ConfigKind.TheVariants as kind
 use Rattle.config_text.specs.declared.faults.Fault.{Fault}
 use Rattle.config_text.specs.declared.sections.Section.{Section}
 use Rattle.config_text.specs.declared.sections.Section.TheVariants as section
 use Rattle.config_text.specs.declared.sections.Opened.{Opened}
 use Rattle.config_text.specs.Drafts.{Draft}
-use Rattle.config_text.specs.declared.words.Setting.{Setting}
+use Rattle.hotkey_text.specs.Shapes.{is_hotkey, hotkey_at}
 use Rattle.config_text.specs.Configurations.{Configuration, with_global, with_own}
+use Rattle.config_text.specs.Hotkeys.{new_hotkey}
 use Rattle.config_text.specs.Shapes.{section_at, header_at, alias_at, link_at, setting_at}
-use Rattle.config_text.specs.Judging.{fault_at, or_fault, formed, known_screen, new_screen, new_alias, new_link, new_setting, stands_below_screen, stands_for_all}
+use Rattle.config_text.specs.Sound.{is_end}
+use Rattle.config_text.specs.Judging.{fault_at, or_fault, formed, known_screen, new_screen, new_alias, new_link, new_setting}
 
 abbrev pub section_text : Section → List ℕ
 section_text section.Screens = codes "screens"
@@ -82,11 +85,21 @@ link_line d xs = do
   c ← new_link (length xs) d.config screen text
   Ok (holding d c)
 
-unfoldable pub option_line : Draft → List ℕ → Result Draft Fault
-option_line d xs = do
+-- an option for all screens
+unfoldable pub global_line : Draft → List ℕ → Result Draft Fault
+global_line d xs = do
   text ← formed (setting_at xs)
   s ← new_setting stands_for_all text
   Ok (holding d (with_global d.config s.option s.value))
+
+unfoldable pub hotkey_line : Draft → List ℕ → Result Draft Fault
+hotkey_line d xs = do
+  form ← formed (hotkey_at xs)
+  c ← new_hotkey (length xs) d.config form
+  Ok (holding d c)
+
+abbrev pub option_line : Draft → List ℕ → Result Draft Fault
+option_line d xs = if is_hotkey xs then hotkey_line d xs else global_line d xs
 
 unfoldable pub in_section : Section → Draft → List ℕ → Result Draft Fault
 in_section section.Screens d xs = if is_header xs then screen_header d xs else screen_line d xs
@@ -97,7 +110,7 @@ in_section section.Options d xs = if is_header xs then Err (fault_at kind.BadLin
 -- inside a section `end` alone closes it
 abbrev pub inside : Option Opened → ℕ → ℕ → Draft → List ℕ → Result Draft Fault
 inside None line column d xs = outside line column d xs
-inside (Some o) line column d xs = if bytes_eq xs (codes "end") then Ok (record d { opened = None; header = None }) else in_section o.section d xs
+inside (Some o) line column d xs = if is_end xs then Ok (record d { opened = None; header = None }) else in_section o.section d xs
 
 -- the words of a line, which are not empty
 unfoldable pub words_in : ℕ → ℕ → Draft → List ℕ → Result Draft Fault

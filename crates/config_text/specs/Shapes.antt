@@ -5,7 +5,7 @@ use Rattle.share_base.specs.declared.shape.Side.{Side}
 use Rattle.text_lines.specs.declared.bytes.WordKind.TheVariants as kind
 use Rattle.text_lines.specs.Bytes.{takes, unblanked}
 use Rattle.text_lines.specs.Reading.{Read, ◌>>=◌, Text, run_at, word_at, sign_at, literal_at, end_at, begins, or_left, number_at}
-use Rattle.config_text.specs.Sides.{side_named}
+use Rattle.share_base.specs.Sides.{side_named}
 
 -- section: NAME
 unfoldable pub section_at : List ℕ → Result Text ℕ

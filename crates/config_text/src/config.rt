@@ -1,32 +1,40 @@
 //! What a text spells.
 
-ghost use Rattle.std.specs.Prelude.{◌≡◌, ◌<◌, ◌≤◌, ◌++◌, ◌∷◌, [], length, true, IfSome, OnOk, OnErr, Option};
+ghost use Rattle.std.specs.Prelude.{◌≡◌, ◌<◌, ◌≤◌, ◌++◌, ◌∷◌, [], length, true, false, IfSome, OnOk, OnErr, Option, None};
 ghost use Rattle.std.specs.Option.{option_map, option_copied};
-ghost use Rattle.std.specs.List.{position, find};
-ghost use Rattle.share_base.specs.Names.{same_name};
+ghost use Rattle.std.specs.List.{position, find, list_all};
+ghost use Rattle.share_base.specs.Names.{is_name, same_name};
 ghost use Rattle.screen_links.specs.Adding.{Adds};
 ghost use Rattle.option_table.specs.Table.{row_of};
 ghost use Rattle.option_table.specs.Values.{suits};
+ghost use Rattle.option_table.specs.Standing.{stands_below_screen, stands_for_all};
+ghost use Rattle.hotkey_text.specs.Spelled.{is_trigger};
+ghost use Rattle.config_text.specs.AddingHotkeys.{AddsHotkey};
+ghost use Rattle.config_text.specs.SoundHotkeys.{is_action_among};
 ghost use Rattle.config_text.specs.Configurations as spec;
 ghost use Rattle.config_text.specs.Configurations.{nothing, screen_of, screen_place, alias_place, with_screen, with_alias, with_global, with_own};
-ghost use Rattle.config_text.specs.Judging.{link_of};
-ghost use Rattle.config_text.specs.Sound.{IsSound};
+ghost use Rattle.config_text.specs.Sound.{IsSound, is_end};
 
+use crate::faults::HotkeysFault;
+use crate::hotkeys::Hotkeys;
 use crate::screens::{Alias, Screen};
+use hotkey_rules::{Action, Rules, Trigger};
 use option_table::{OptionName, Settings};
-use screen_links::{LinkFault, Links, Range};
-use share_base::{OutOfMemory, ScreenName, ScreenNo, Side};
+use screen_links::{Link, LinkFault, Links};
+use share_base::{OutOfMemory, ScreenName, ScreenNo};
 use std::alloc::Global;
 use std::marker::Model;
 
-/// A configuration: its screens with their own options, their aliases and links, and the options for
-/// all screens. It is made by `parse` alone. Contracts see a `Configuration`.
+/// A configuration: its screens with their own options, their aliases and links, the options for all
+/// screens, and the hotkeys. It is made by `parse` alone. Contracts see a `Configuration`.
 #[derive(Debug, Drop)]
 pub struct Config {
+    pub(crate) alloc: Global,
     pub(crate) screens: Vec<Screen>,
     pub(crate) aliases: Vec<Alias>,
     pub(crate) links: Links,
     pub(crate) settings: Settings,
+    pub(crate) hotkeys: Hotkeys,
 }
 
 impl Model for Config {
@@ -40,6 +48,7 @@ impl Model for Config {
       aliases = c.aliases.items;
       links = c.links;
       settings = c.settings;
+      hotkeys = c.hotkeys;
     } };
 
     ghost invariant = { λ c. IsSound (record {
@@ -47,6 +56,7 @@ impl Model for Config {
       aliases = c.aliases.items;
       links = c.links;
       settings = c.settings;
+      hotkeys = c.hotkeys;
     }) };
 }
 
@@ -80,21 +90,34 @@ impl Config {
         ensures { result ≡ nothing }
     {
         Config {
+            alloc,
             screens: Vec::new(alloc),
             aliases: Vec::new(alloc),
             links: Links::new(alloc),
             settings: Settings::new(),
+            hotkeys: Hotkeys::new(alloc),
         }
     }
 
-    /// How many screens there are, at most 64. Their numbers are those below; each number of a screen in
-    /// the configuration is one of them.
+    /// How many screens there are, at most 64. Their numbers are those below. Every configuration is
+    /// sound: each number of a screen in it is one of them, its names are names of which no two are the
+    /// same, its options are set where they may stand, to values that suit them, its links are apart, and
+    /// a text can spell its hotkeys.
     pub fn count(&self) -> u16
         ensures count { result ≡ length self.now.screens }
         ensures bound { length self.now.screens ≤ 64 }
         ensures sound { IsSound self.now }
     {
         self.screens.len() as u16
+    }
+
+    /// The hotkeys, in the order of the text: at most 256, with 4,096 actions. Each can be spelled by a
+    /// text, each screen's number in them is below `count`, and the button of a key is 0xF000 and the
+    /// key's place among the keys of actions. It takes no memory.
+    pub fn rules(&self) -> &Rules
+        ensures { result.now ≡ self.now.hotkeys }
+    {
+        self.hotkeys.rules()
     }
 
     /// The screen of that name or alias, in capital or small letters. `None` comes exactly where none
@@ -120,9 +143,11 @@ impl Config {
         self.aliases.len()
     }
 
-    /// A further screen, which has the number `count`.
+    /// A further screen, which has the number `count`. No screen or alias has its name.
     pub(crate) fn add_screen(&mut self, name: ScreenName) -> Result<(), OutOfMemory>
-        requires { length self.old.screens < 64 }
+        requires room { length self.old.screens < 64 }
+        requires named { is_name name ≡ true }
+        requires unknown { screen_of self.old name ≡ None }
         ensures ok { OnOk result (self.new ≡ with_screen self.old name) }
         ensures err { OnErr result (self.new ≡ self.old) }
     {
@@ -133,10 +158,13 @@ impl Config {
         Ok(())
     }
 
-    /// A further alias.
+    /// A further alias. No screen or alias has its name, and it isn't `end`, whose line closes a section.
     pub(crate) fn add_alias(&mut self, name: ScreenName, screen: u16) -> Result<(), OutOfMemory>
         requires room { length self.old.aliases < 256 }
         requires known { screen < length self.old.screens }
+        requires named { is_name name ≡ true }
+        requires no_end { is_end name ≡ false }
+        requires unknown { screen_of self.old name ≡ None }
         ensures ok { OnOk result (self.new ≡ with_alias self.old name screen) }
         ensures err { OnErr result (self.new ≡ self.old) }
     {
@@ -145,26 +173,36 @@ impl Config {
     }
 
     /// A further link.
-    pub(crate) fn add_link(
-        &mut self,
-        from: u16,
-        side: Side,
-        range: Range,
-        to: u16,
-        onto: Range,
-    ) -> Result<(), LinkFault>
-        requires leaves { from < length self.old.screens }
-        requires enters { to < length self.old.screens }
-        ensures links { Adds result self.old.links (link_of from side range to onto) self.new.links }
+    pub(crate) fn add_link(&mut self, link: Link) -> Result<(), LinkFault>
+        requires leaves { link.from.0 < length self.old.screens }
+        requires enters { link.to.0 < length self.old.screens }
+        ensures links { Adds result self.old.links link self.new.links }
         ensures rest { self.new ≡ record self.old { links = self.new.links } }
     {
         self.links
-            .add(ScreenNo(from), side, range, ScreenNo(to), onto)
+            .add(link.from, link.side, link.range, link.to, link.onto)
+    }
+
+    /// A further hotkey, whose keys are given their buttons.
+    pub(crate) fn add_hotkey(
+        &mut self,
+        trigger: Trigger,
+        press: &[Action],
+        release: &[Action],
+    ) -> Result<(), HotkeysFault>
+        requires trigger { is_trigger trigger ≡ true }
+        requires press { list_all (is_action_among (length self.old.screens)) press.now ≡ true }
+        requires release { list_all (is_action_among (length self.old.screens)) release.now ≡ true }
+        ensures hotkeys { AddsHotkey result self.old.hotkeys trigger press.now release.now self.new.hotkeys }
+        ensures rest { self.new ≡ record self.old { hotkeys = self.new.hotkeys } }
+    {
+        self.hotkeys.add(trigger, press, release)
     }
 
     /// Sets an option for all screens.
     pub(crate) fn set_global(&mut self, option: OptionName, value: u32)
-        requires { suits (row_of option).form value ≡ true }
+        requires stands { stands_for_all (row_of option).scope ≡ true }
+        requires suits { suits (row_of option).form value ≡ true }
         ensures { self.new ≡ with_global self.old option value }
     {
         self.settings.set(option, value);
@@ -173,7 +211,8 @@ impl Config {
     /// Sets an option of one screen.
     #[tactic(auto, unfolding(crate::specs::Configurations::with_own))]
     pub(crate) fn set_own(&mut self, screen: u16, option: OptionName, value: u32)
-        requires value { suits (row_of option).form value ≡ true }
+        requires stands { stands_below_screen (row_of option).scope ≡ true }
+        requires suits { suits (row_of option).form value ≡ true }
         requires known { screen < length self.old.screens }
         ensures set { self.new ≡ with_own self.old screen option value }
         ensures same_count { length self.new.screens ≡ length self.old.screens }

@@ -1,9 +1,11 @@
 //! A line's words, taken by the section in which they stand.
 
-ghost use Rattle.std.specs.Prelude.{◌≡◌, length};
+ghost use Rattle.std.specs.Prelude.{◌≡◌, length, false};
 ghost use Rattle.std.specs.Str.{bytes_eq};
+ghost use Rattle.text_lines.specs.Lines.{trimmed};
 ghost use Rattle.config_text.specs.Answering.{Judges};
 ghost use Rattle.config_text.specs.Sections as spec;
+ghost use Rattle.config_text.specs.Sound.{is_end};
 
 use crate::config::Config;
 use crate::faults::{ConfigKind, Fault, LineFault};
@@ -97,6 +99,8 @@ impl Draft {
 
     #[tactic(auto, unfolding(crate::specs::Sections::alias_line))]
     fn alias_line(&mut self, bytes: &[u8]) -> Result<(), LineFault>
+        requires whole { trimmed bytes.now ≡ bytes.now }
+        requires no_end { is_end bytes.now ≡ false }
         ensures { Judges (λ _. self.new) result (spec.alias_line self.old bytes.now) }
     {
         let Some(screen) = self.header else {
@@ -117,9 +121,9 @@ impl Draft {
         self.config.new_link(screen, text, bytes.len())
     }
 
-    #[tactic(auto, unfolding(crate::specs::Sections::option_line))]
-    fn option_line(&mut self, bytes: &[u8]) -> Result<(), LineFault>
-        ensures { Judges (λ _. self.new) result (spec.option_line self.old bytes.now) }
+    #[tactic(auto, unfolding(crate::specs::Sections::global_line))]
+    fn global_line(&mut self, bytes: &[u8]) -> Result<(), LineFault>
+        ensures { Judges (λ _. self.new) result (spec.global_line self.old bytes.now) }
     {
         let text = formed(shapes::setting(bytes))?;
         let setting = global_setting(text)?;
@@ -127,8 +131,27 @@ impl Draft {
         Ok(())
     }
 
+    #[tactic(auto, unfolding(crate::specs::Sections::hotkey_line))]
+    fn hotkey_line(&mut self, bytes: &[u8]) -> Result<(), LineFault>
+        ensures { Judges (λ _. self.new) result (spec.hotkey_line self.old bytes.now) }
+    {
+        let form = formed(hotkey_text::hotkey(bytes))?;
+        self.config.new_hotkey(form, bytes.len())
+    }
+
+    fn option_line(&mut self, bytes: &[u8]) -> Result<(), LineFault>
+        ensures { Judges (λ _. self.new) result (spec.option_line self.old bytes.now) }
+    {
+        if hotkey_text::is_hotkey(bytes) {
+            return self.hotkey_line(bytes);
+        }
+        self.global_line(bytes)
+    }
+
     #[tactic(auto, unfolding(crate::specs::Sections::in_section))]
     fn in_section(&mut self, section: Section, bytes: &[u8]) -> Result<(), LineFault>
+        requires whole { trimmed bytes.now ≡ bytes.now }
+        requires no_end { is_end bytes.now ≡ false }
         ensures { Judges (λ _. self.new) result (spec.in_section section self.old bytes.now) }
     {
         let headed = is_header(bytes);
@@ -167,9 +190,10 @@ impl Draft {
         self.header = None;
     }
 
-    /// The words of a line, of which there is one at least.
+    /// The words of a line, of which there is one at least. No blank stands behind the last.
     #[tactic(auto, unfolding(crate::specs::Sections::words_in))]
     pub(crate) fn words(&mut self, bytes: &[u8], line: u32, column: u32) -> Result<(), LineFault>
+        requires { trimmed bytes.now ≡ bytes.now }
         ensures { Judges (λ _. self.new) result (spec.words_in line column self.old bytes.now) }
     {
         let Some(opened) = self.opened else {

@@ -1,5 +1,8 @@
 //! Why a text is refused.
 
+ghost use Rattle.std.specs.Prelude.{◌≡◌};
+ghost use Rattle.config_text.specs.Kinds.{kind_text};
+
 use share_base::OutOfMemory;
 use thiserror::Error;
 
@@ -28,14 +31,40 @@ pub enum ConfigKind {
     Overlap,
     /// No option has that key, or it doesn't belong into the section.
     UnknownOption,
-    /// The value isn't one of the option's form.
+    /// The value isn't one of the option's form, or a word of a hotkey isn't one that stands there; or a
+    /// hotkey has no action and no `;`.
     BadValue,
-    /// No key has that name.
+    /// No key has that name; or the key of a hotkey is a modifier.
     UnknownKey,
     /// No action has that name.
     UnknownAction,
-    /// The line passes a limit: 64 screens, 256 aliases, 1,024 links.
+    /// The line passes a limit: 64 screens, 256 aliases, 1,024 links, 256 hotkeys, 256 keys of actions,
+    /// 4,096 actions.
     TooMany,
+}
+
+impl ConfigKind {
+    /// The word that it is printed as.
+    pub fn text(self) -> &'static [u8]
+        ensures { result.now ≡ kind_text self }
+    {
+        match self {
+            ConfigKind::BadLine => b"BadLine",
+            ConfigKind::UnknownSection => b"UnknownSection",
+            ConfigKind::UnclosedSection => b"UnclosedSection",
+            ConfigKind::BadName => b"BadName",
+            ConfigKind::DuplicateScreen => b"DuplicateScreen",
+            ConfigKind::DuplicateAlias => b"DuplicateAlias",
+            ConfigKind::UnknownScreen => b"UnknownScreen",
+            ConfigKind::BadRange => b"BadRange",
+            ConfigKind::Overlap => b"Overlap",
+            ConfigKind::UnknownOption => b"UnknownOption",
+            ConfigKind::BadValue => b"BadValue",
+            ConfigKind::UnknownKey => b"UnknownKey",
+            ConfigKind::UnknownAction => b"UnknownAction",
+            ConfigKind::TooMany => b"TooMany",
+        }
+    }
 }
 
 /// Where and why a text is refused. Lines and columns count from 1, in bytes.
@@ -82,5 +111,25 @@ impl From<OutOfMemory> for LineFault {
 
     fn from(_error: OutOfMemory) -> LineFault {
         LineFault::OutOfMemory
+    }
+}
+
+/// Why a hotkey was not added.
+#[derive(Clone, Copy, Debug, PartialEq, Eq)]
+pub(crate) enum HotkeysFault {
+    /// It would pass a limit.
+    Full,
+    /// Memory could not be had.
+    OutOfMemory,
+}
+
+impl From<OutOfMemory> for HotkeysFault {
+    ghost use Rattle.std.specs.Prelude.{◌≡◌};
+    ghost use Rattle.config_text.specs.declared.faults.HotkeysFault.TheVariants.{OutOfMemory as no_memory};
+
+    ghost from_gives = { λ _ e. e ≡ no_memory };
+
+    fn from(_error: OutOfMemory) -> HotkeysFault {
+        HotkeysFault::OutOfMemory
     }
 }

@@ -6,18 +6,20 @@ ghost use Rattle.option_table.specs.Table.{row_of};
 ghost use Rattle.option_table.specs.Values.{suits};
 ghost use Rattle.config_text.specs.Globals as spec;
 ghost use Rattle.config_text.specs.Globals.{AreInRange};
-ghost use Rattle.config_text.specs.Normal.{name_of};
+ghost use Rattle.config_text.specs.Values.{name_of};
 
 use crate::config::Config;
 use option_table::{OptionName, Settings, put_wire_words};
 use screen_links::Links;
-use share_base::{OutOfMemory, ScreenName, ScreenNo, Words32};
+use share_base::{Corners, OutOfMemory, ScreenName, ScreenNo, Words32};
 use std::alloc::Global;
 
 /// What the text says of the greeting. Neither changes it.
 #[derive(Clone, Copy, Debug, PartialEq, Eq)]
 pub enum Protocol {
+    /// `synergy`, which stands where the text says nothing.
     Synergy,
+    /// `barrier`.
     Barrier,
 }
 
@@ -34,27 +36,28 @@ pub struct Globals {
     pub switch_corners: u8,
     /// Pixels of a corner, at most 32,767.
     pub switch_corner_size: u32,
+    /// Whether the pointer is moved by distances while the cursor is locked to a screen.
     pub relative_mouse_moves: bool,
+    /// Whether clipboards are shared.
     pub clipboard_sharing: bool,
     /// Units of 1,024 bytes, at most 4,096.
     pub clipboard_sharing_size: u32,
+    /// Whether the screen savers start and stop together.
     pub screen_saver_sync: bool,
+    /// Whether an edge is passed only while Shift is held.
     pub switch_needs_shift: bool,
+    /// Whether an edge is passed only while Control is held.
     pub switch_needs_control: bool,
+    /// Whether an edge is passed only while Alt is held.
     pub switch_needs_alt: bool,
+    /// Kept and printed; it has no effect.
     pub win32_keep_foreground: bool,
+    /// Kept and printed; it has no effect.
     pub disable_lock_to_screen: bool,
+    /// Kept and printed; it has no effect.
     pub default_lock_to_screen_state: bool,
+    /// What the text says of the greeting. It has no effect.
     pub protocol: Protocol,
-}
-
-/// Corners that block an edge of a screen, and their size.
-#[derive(Clone, Copy, Debug, PartialEq, Eq)]
-pub struct Corners {
-    /// The sum of top-left 1, top-right 2, bottom-left 4 and bottom-right 8.
-    pub set: u8,
-    /// Pixels, at most 32,767.
-    pub size: u32,
 }
 
 fn flag(settings: &Settings, option: OptionName) -> bool

@@ -1,18 +1,20 @@
 //! The faults of names and links in what the lines above gave.
 
-ghost use Rattle.std.specs.Prelude.{◌≡◌, ◌<◌, ◌≤◌, ◌+◌, IfOk, OnOk, length};
+ghost use Rattle.std.specs.Prelude.{◌≡◌, false, ◌<◌, ◌≤◌, ◌+◌, IfOk, OnOk, length};
 ghost use Rattle.text_lines.specs.Seen.{word_text};
+ghost use Rattle.screen_links.specs.Adding.{HasGoodRanges};
 ghost use Rattle.screen_links.specs.Ranges.{IsGood};
 ghost use Rattle.config_text.specs.Answering.{Judges};
 ghost use Rattle.config_text.specs.Judging as spec;
+ghost use Rattle.config_text.specs.Sound.{is_end};
 ghost use Rattle.config_text.specs.Seen.{link_text, maybe_range_text};
 
 use crate::config::Config;
 use crate::faults::{ConfigKind, Fault, LineFault};
 use crate::shapes::{LinkText, RangeText};
 use crate::words::unless;
-use screen_links::{LinkFault, Range};
-use share_base::ScreenName;
+use screen_links::{Link, LinkFault, Range};
+use share_base::{ScreenName, ScreenNo};
 use text_lines::Word;
 
 fn refusal<T>(kind: ConfigKind, left: usize) -> Result<T, LineFault>
@@ -81,7 +83,7 @@ impl Config {
         Ok(())
     }
 
-    /// A new alias of a screen, in whose line `whole` bytes stand.
+    /// A new alias of a screen, in whose line `whole` bytes stand. It isn't `end`.
     #[tactic(auto, unfolding(crate::specs::Judging::new_alias))]
     pub(crate) fn new_alias(
         &mut self,
@@ -89,7 +91,8 @@ impl Config {
         name: Word<'_>,
         whole: usize,
     ) -> Result<(), LineFault>
-        requires { screen < length self.old.screens }
+        requires known { screen < length self.old.screens }
+        requires no_end { is_end name.text.now ≡ false }
         ensures judged { Judges (λ _. self.new) result (spec.new_alias whole self.old screen (word_text name.entry)) }
         ensures same_count { length self.new.screens ≡ length self.old.screens }
     {
@@ -108,6 +111,24 @@ impl Config {
         Ok(())
     }
 
+    /// A further link, whose side stands `left` bytes before the end of a line of `whole` bytes.
+    #[tactic(auto, using(crate::proofs::NewLinks::one_more))]
+    fn one_link_more(&mut self, link: Link, left: usize, whole: usize) -> Result<(), LineFault>
+        requires good { HasGoodRanges link }
+        requires leaves { link.from.0 < length self.old.screens }
+        requires enters { link.to.0 < length self.old.screens }
+        ensures judged { Judges (λ _. self.new) result (spec.one_link_more whole self.old left link) }
+        ensures same_count { length self.new.screens ≡ length self.old.screens }
+    {
+        match self.add_link(link) {
+            Ok(()) => Ok(()),
+            Err(LinkFault::BadRange) => unreachable!(),
+            Err(LinkFault::Overlap) => refusal(ConfigKind::Overlap, left),
+            Err(LinkFault::Full) => refusal(ConfigKind::TooMany, whole),
+            Err(LinkFault::OutOfMemory) => Err(LineFault::OutOfMemory),
+        }
+    }
+
     /// A new link from a screen, in whose line `whole` bytes stand.
     #[tactic(auto, unfolding(crate::specs::Judging::new_link))]
     pub(crate) fn new_link(
@@ -123,18 +144,13 @@ impl Config {
         let to = self.known_screen(text.name)?;
         let range = good_range(text.source)?;
         let onto = good_range(text.target)?;
-        match self.add_link(from, text.side, range, to, onto) {
-            Ok(()) => Ok(()),
-            Err(LinkFault::BadRange) => unreachable!(),
-            Err(LinkFault::Overlap) => Err(LineFault::Refused(Fault {
-                kind: ConfigKind::Overlap,
-                left: text.left,
-            })),
-            Err(LinkFault::Full) => Err(LineFault::Refused(Fault {
-                kind: ConfigKind::TooMany,
-                left: whole,
-            })),
-            Err(LinkFault::OutOfMemory) => Err(LineFault::OutOfMemory),
-        }
+        let link = Link {
+            from: ScreenNo(from),
+            side: text.side,
+            range,
+            to: ScreenNo(to),
+            onto,
+        };
+        self.one_link_more(link, text.left, whole)
     }
 }

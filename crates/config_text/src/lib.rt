@@ -7,23 +7,40 @@
 //! of files, of connections and of what a server does with a configuration.
 #![tactic(auto)]
 
+mod action_keys;
 mod config;
 mod drafts;
 mod faults;
 mod globals;
+#[cfg(test)]
+mod grammar_tests;
+mod hotkey_judging;
+#[cfg(test)]
+mod hotkey_print_tests;
+mod hotkey_printing;
+#[cfg(test)]
+mod hotkey_tests;
+mod hotkeys;
 mod judging;
+mod laws;
 mod parsing;
 mod printing;
 mod screens;
 mod sections;
 mod shapes;
-mod sides;
 #[cfg(test)]
 mod tests;
+mod value_laws;
 mod words;
 
 pub use config::Config;
 pub use faults::{ConfigFault, ConfigKind, ConfigRefusal};
-pub use globals::{Corners, Globals, Protocol};
+pub use globals::{Globals, Protocol};
+pub use laws::{
+    aliases_are_spelled, faults_stand_in_order, headers_are_spelled, lines_stop_at_one_place,
+    lines_stop_where_they_cannot_go_on, links_are_spelled, links_stop_where_they_cannot_go_on,
+    refused_for_the_first_fault, sections_are_spelled, settings_are_spelled,
+};
 pub use parsing::parse;
 pub use printing::print;
+pub use value_laws::{each_link_is_in_the_value, normal_form_is_of_the_value};

@@ -4,18 +4,20 @@ ghost use Rattle.std.specs.Prelude.{◌≡◌, ◌<◌, ◌≤◌, ◌++◌, ◌
 ghost use Rattle.std.specs.Option.{option_copied};
 ghost use Rattle.std.specs.List.{find, flat_map};
 ghost use Rattle.text_lines.specs.Reading.{is_empty};
-ghost use Rattle.config_text.specs.Judging.{same_side};
-ghost use Rattle.config_text.specs.Sides.{sides};
+ghost use Rattle.share_base.specs.Sides.{sides};
 ghost use Rattle.config_text.specs.Normal as spec;
 ghost use Rattle.config_text.specs.Normal.{normal};
+ghost use Rattle.config_text.specs.PrintedAgain.{SpellsAgain};
+ghost use Rattle.config_text.specs.Values.{begins_at, name_of};
 
 use crate::config::Config;
 use crate::screens::{Alias, Screen};
-use crate::sides::{SIDES, word_of};
 use option_table::{put_number, put_option_lines};
 use screen_links::{Link, Range};
 use share_base::{Octets, OutOfMemory, ScreenNo, Side};
 use std::alloc::Global;
+
+const SIDES: [Side; 4] = [Side::Left, Side::Right, Side::Up, Side::Down];
 
 #[tactic(auto, unfolding(crate::specs::Normal::header_text))]
 fn put_header(name: &[u8], out: &mut Octets) -> Result<(), OutOfMemory>
@@ -66,6 +68,18 @@ fn put_screens(screens: &[Screen], out: &mut Octets) -> Result<(), OutOfMemory>
     Ok(())
 }
 
+fn put_screens_section(
+    alloc: Global,
+    screens: &[Screen],
+    out: &mut Octets,
+) -> Result<(), OutOfMemory>
+    ensures { OnOk result (out.new ≡ out.old ++ spec.section_of (codes "screens") (flat_map spec.screen_text screens.now)) }
+{
+    let mut below = Octets::new(alloc);
+    put_screens(screens, &mut below)?;
+    put_section(b"screens", below.as_slice(), out)
+}
+
 #[tactic(auto, unfolding(crate::specs::Normal::alias_text))]
 fn put_alias(screen: u16, alias: &Alias, out: &mut Octets) -> Result<(), OutOfMemory>
     ensures { OnOk result (out.new ≡ out.old ++ spec.alias_text screen alias.now) }
@@ -102,13 +116,13 @@ fn put_range(range: Range, out: &mut Octets) -> Result<(), OutOfMemory>
 }
 
 fn is_link_at(link: &Link, from: u16, side: Side, a: u8) -> bool
-    ensures { result ≡ (link.now.from.0 == from) && same_side link.now.side side && (link.now.range.a == a) }
+    ensures { result ≡ begins_at from side a link.now }
 {
     link.from.0 == from && link.side == side && link.range.a == a
 }
 
 fn find_link(links: &[Link], from: u16, side: Side, a: u8) -> Option<&Link>
-    ensures { option_copied result ≡ find (λ l. (l.from.0 == from) && same_side l.side side && (l.range.a == a)) links.now }
+    ensures { option_copied result ≡ find (begins_at from side a) links.now }
 {
     links.iter().find(|link| is_link_at(link, from, side, a))
 }
@@ -142,8 +156,9 @@ impl Config {
         Ok(())
     }
 
-    fn name_bytes(&self, screen: ScreenNo) -> &[u8]
-        ensures { result.now ≡ spec.name_of self.now screen.0 }
+    /// The name of a screen, or nothing where it isn't one.
+    pub(crate) fn name_bytes(&self, screen: ScreenNo) -> &[u8]
+        ensures { result.now ≡ name_of self.now screen.0 }
     {
         match self.screens.get(screen.0 as usize) {
             Some(screen) => screen.name.as_slice(),
@@ -156,7 +171,7 @@ impl Config {
         ensures { OnOk result (out.new ≡ out.old ++ spec.link_text self.now link.now) }
     {
         out.extend(b"\t\t")?;
-        out.extend(word_of(link.side))?;
+        out.extend(link.side.word())?;
         put_range(link.range, out)?;
         out.extend(b" = ")?;
         out.extend(self.name_bytes(link.to))?;
@@ -212,14 +227,6 @@ impl Config {
         Ok(())
     }
 
-    fn put_screens_section(&self, alloc: Global, out: &mut Octets) -> Result<(), OutOfMemory>
-        ensures { OnOk result (out.new ≡ out.old ++ spec.section_of (codes "screens") (spec.screens_text self.now)) }
-    {
-        let mut below = Octets::new(alloc);
-        put_screens(self.screens.as_slice(), &mut below)?;
-        put_section(b"screens", below.as_slice(), out)
-    }
-
     fn put_aliases_section(&self, alloc: Global, out: &mut Octets) -> Result<(), OutOfMemory>
         ensures { OnOk result (out.new ≡ out.old ++ spec.section_of (codes "aliases") (spec.aliases_text self.now)) }
     {
@@ -241,19 +248,21 @@ impl Config {
     {
         let mut below = Octets::new(alloc);
         put_option_lines(b"\t", &self.settings, &mut below)?;
+        self.put_hotkeys(&mut below)?;
         put_section(b"options", below.as_slice(), out)
     }
 }
 
-/// Adds the normal form of a configuration, which spells it again. After `OutOfMemory` nothing was
-/// added.
+/// Adds the normal form of a configuration. That text is accepted, and spells a configuration of the same
+/// value. After `OutOfMemory` nothing was added.
 #[tactic(auto, unfolding(crate::specs::Normal::normal))]
 pub fn print(alloc: Global, config: &Config, out: &mut Octets) -> Result<(), OutOfMemory>
     ensures ok { OnOk result (out.new ≡ out.old ++ normal config.now) }
+    ensures again { OnOk result (SpellsAgain (normal config.now) config.now) }
     ensures err { OnErr result (out.new ≡ out.old) }
 {
     let mut text = Octets::new(alloc);
-    config.put_screens_section(alloc, &mut text)?;
+    put_screens_section(alloc, config.screens.as_slice(), &mut text)?;
     config.put_aliases_section(alloc, &mut text)?;
     config.put_links_section(alloc, &mut text)?;
     config.put_options_section(alloc, &mut text)?;

@@ -6,7 +6,6 @@ ghost use Rattle.text_lines.specs.Seen.{word_text};
 ghost use Rattle.config_text.specs.Shapes.{section_at, header_at, alias_at, range_at, maybe_range_at, link_at, setting_at};
 ghost use Rattle.config_text.specs.Seen.{range_text, maybe_range_text, link_text, setting_text};
 
-use crate::sides::side_of;
 use share_base::Side;
 use text_lines::{Word, WordKind, end, literal, number, run, sign, unblanked, whole_word};
 
@@ -106,7 +105,7 @@ pub(crate) fn link(bytes: &[u8]) -> Result<LinkText<'_>, usize>
     ensures { Gives link_text result (link_at bytes.now) }
 {
     let (word, rest) = whole_word(bytes, WordKind::Side)?;
-    let side = side_of(word.text).ok_or(word.left)?;
+    let side = Side::named(word.text).ok_or(word.left)?;
     let (source, rest) = maybe_range(rest)?;
     let rest = sign(rest, b'=')?;
     let (name, rest) = whole_word(rest, WordKind::Name)?;

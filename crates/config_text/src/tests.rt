@@ -5,7 +5,7 @@ use std::test::*;
 
 /// A text that is refused, with its line, column and kind.
 #[derive(Clone, Copy)]
-struct Refused(&'static [u8], u32, u32, ConfigKind);
+pub(crate) struct Refused(pub &'static [u8], pub u32, pub u32, pub ConfigKind);
 
 // Rows and long texts stand in functions, whose results no proof looks into.
 fn refused_texts() -> [Refused; 24] {
@@ -64,8 +64,8 @@ fn refused_texts() -> [Refused; 24] {
         Refused(
             b"section: options\nkeystroke (a) = ",
             2,
-            11,
-            ConfigKind::BadLine,
+            16,
+            ConfigKind::BadValue,
         ),
         Refused(
             b"section: screens\na:\nend\nsection: links\na:\nleft(007,9)=a",
@@ -129,6 +129,7 @@ end
 section: options
 \theartbeat = 5000
 \tswitchDelay = 250
+\tkeystroke(Control+Alt+Right) = switchInDirection(right)
 end
 "
 }
@@ -159,11 +160,12 @@ end
 section: options
 \theartbeat = 5000
 \tswitchDelay = 250
+\tkeystroke(Control+Alt+Right) = switchInDirection(right)
 end
 "
 }
 
-fn every_option() -> &'static [u8] {
+pub(crate) fn every_option() -> &'static [u8] {
     b"section: screens
 \ta:
 \t\thalfDuplexCapsLock = true
@@ -204,7 +206,7 @@ end
 "
 }
 
-fn refusal(rt: &HostRuntime, text: &[u8]) -> Option<ConfigRefusal> {
+pub(crate) fn refusal(rt: &HostRuntime, text: &[u8]) -> Option<ConfigRefusal> {
     if text.len() > 1_000_000 {
         return None;
     }
@@ -214,14 +216,14 @@ fn refusal(rt: &HostRuntime, text: &[u8]) -> Option<ConfigRefusal> {
     }
 }
 
-fn read(rt: &HostRuntime, text: &[u8]) -> Result<Config, ConfigFault> {
+pub(crate) fn read(rt: &HostRuntime, text: &[u8]) -> Result<Config, ConfigFault> {
     if text.len() > 1_000_000 {
         return Err(ConfigFault::OutOfMemory);
     }
     parse(rt.alloc(), text)
 }
 
-fn printed(rt: &HostRuntime, text: &[u8]) -> Result<Octets, Fail> {
+pub(crate) fn printed(rt: &HostRuntime, text: &[u8]) -> Result<Octets, Fail> {
     let config = read(rt, text)?;
     let mut out = Octets::new(rt.alloc());
     print(rt.alloc(), &config, &mut out)?;
@@ -275,10 +277,23 @@ fn a_screen_is_sent_what_is_set(rt: HostRuntime) -> Result<(), Fail> {
     Ok(())
 }
 
-fn put_numbered(text: &mut Octets, before: &[u8], n: u32, after: &[u8]) -> Result<(), OutOfMemory> {
+pub(crate) fn put_numbered(
+    text: &mut Octets,
+    before: &[u8],
+    n: u32,
+    after: &[u8],
+) -> Result<(), OutOfMemory> {
     text.extend(before)?;
     put_number(n, text)?;
     text.extend(after)
+}
+
+fn too_many(line: u32, column: u32) -> ConfigRefusal {
+    ConfigRefusal {
+        line,
+        column,
+        kind: ConfigKind::TooMany,
+    }
 }
 
 #[test]
@@ -289,7 +304,7 @@ fn a_65th_screen_is_too_many(rt: HostRuntime) -> Result<(), Fail> {
         put_numbered(&mut text, b"\ts", n, b":\n")?;
     }
     let refusal = refusal(&rt, text.as_slice()).ok_or("refused")?;
-    assert_eq!(rt; (refusal.line, refusal.column), (66, 2));
+    assert_eq!(rt; refusal, too_many(66, 2));
     Ok(())
 }
 
@@ -301,7 +316,7 @@ fn a_257th_alias_is_too_many(rt: HostRuntime) -> Result<(), Fail> {
         put_numbered(&mut text, b"\t\ts", n, b"\n")?;
     }
     let refusal = refusal(&rt, text.as_slice()).ok_or("refused")?;
-    assert_eq!(rt; (refusal.line, refusal.column), (262, 3));
+    assert_eq!(rt; refusal, too_many(262, 3));
     Ok(())
 }
 
@@ -327,6 +342,6 @@ fn a_1025th_link_is_too_many(rt: HostRuntime) -> Result<(), Fail> {
     }
     // Line 14 opens the section, a screen has 101 lines in it, and this is the eleventh screen's 25th link.
     let refusal = refusal(&rt, text.as_slice()).ok_or("refused")?;
-    assert_eq!(rt; (refusal.line, refusal.column), (1050, 1));
+    assert_eq!(rt; refusal, too_many(1050, 1));
     Ok(())
 }

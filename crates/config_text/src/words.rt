@@ -5,7 +5,8 @@ ghost use Rattle.option_table.specs.Table.{row_of};
 ghost use Rattle.option_table.specs.Values.{suits};
 ghost use Rattle.config_text.specs.Answering.{Judges};
 ghost use Rattle.config_text.specs.Judging as spec;
-ghost use Rattle.config_text.specs.Judging.{new_setting, stands_below_screen, stands_for_all};
+ghost use Rattle.option_table.specs.Standing.{stands_below_screen, stands_for_all};
+ghost use Rattle.config_text.specs.Judging.{new_setting};
 ghost use Rattle.config_text.specs.Seen.{setting_text};
 
 use crate::faults::{ConfigKind, Fault, LineFault};
@@ -81,6 +82,7 @@ fn is_for_all(scope: Scope) -> bool
 #[tactic(auto, unfolding(crate::specs::Judging::new_setting))]
 pub(crate) fn own_setting(text: SettingText<'_>) -> Result<Setting, LineFault>
     ensures judged { Judges (λ x. x) result (new_setting stands_below_screen (setting_text text.entry)) }
+    ensures stands { IfOk result (λ s. stands_below_screen (row_of s.option).scope ≡ true) }
     ensures suits { IfOk result (λ s. suits (row_of s.option).form s.value ≡ true) }
 {
     let option = found(
@@ -107,6 +109,7 @@ pub(crate) fn own_setting(text: SettingText<'_>) -> Result<Setting, LineFault>
 #[tactic(auto, unfolding(crate::specs::Judging::new_setting))]
 pub(crate) fn global_setting(text: SettingText<'_>) -> Result<Setting, LineFault>
     ensures judged { Judges (λ x. x) result (new_setting stands_for_all (setting_text text.entry)) }
+    ensures stands { IfOk result (λ s. stands_for_all (row_of s.option).scope ≡ true) }
     ensures suits { IfOk result (λ s. suits (row_of s.option).form s.value ≡ true) }
 {
     let option = found(

@@ -1,4 +1,4 @@
-use Rattle.std.proofs.Common.{◌≡◌, ℕ, List, length, Some, ◌<◌, ◌∙◌, sym, ap, subst}
+use Rattle.std.proofs.Common.{List, length, ◌<◌, ◌∙◌, sym, ap, subst}
 use Rattle.config_text.specs.declared.screens.Alias.{Alias}
 use Rattle.config_text.specs.Configurations.{Configuration, alias_place}
 use Rattle.config_text.proofs.Bounds.{alias_known}

@@ -1,6 +1,7 @@
-use Rattle.std.proofs.Common.{◌≡◌, ◌++◌, List, ℕ, ap, sym, ◌∙◌, arith}
-use Rattle.share_base.proofs.FlatMaps.{part_added, parts_done}
-use Rattle.config_text.specs.Normal.{aliases_of, numbers_of}
+use Rattle.std.proofs.Common.{arith}
+use Rattle.share_base.proofs.FlatMaps.{parts_done}
+use Rattle.config_text.specs.Normal.{aliases_of}
+use Rattle.config_text.specs.Values.{numbers_of}
 use Rattle.config_text.proofs.Numbers.{count_of_numbers, number_added}
 use Rattle.config_text.proofs.config.Config.put_aliases.Goals as goal
 

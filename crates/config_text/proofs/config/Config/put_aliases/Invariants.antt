@@ -1,6 +1,7 @@
 use Rattle.std.proofs.Common.{◌≡◌, ◌++◌, drop}
 use Rattle.std.specs.List.{flat_map}
-use Rattle.config_text.specs.Normal.{aliases_of, aliases_text, numbers_of}
+use Rattle.config_text.specs.Normal.{aliases_of, aliases_text}
+use Rattle.config_text.specs.Values.{numbers_of}
 use Rattle.config_text.proofs.config.Config.put_aliases.Given as goal
 
 abbrev pub invariant-loop-screen : goal.invariant-loop-screen

@@ -1,5 +1,6 @@
 use Rattle.std.proofs.Common.{arith}
-use Rattle.config_text.specs.Normal.{link_at, side_links, hundredths}
+use Rattle.config_text.specs.Normal.{link_at, side_links}
+use Rattle.config_text.specs.Values.{hundredths}
 use Rattle.config_text.proofs.Numbers.{hundredth_added, count_of_hundredths}
 use Rattle.share_base.proofs.FlatMaps.{parts_done}
 use Rattle.config_text.proofs.config.Config.put_side.Goals as goal

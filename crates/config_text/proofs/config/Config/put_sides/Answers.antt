@@ -1,7 +1,7 @@
 use Rattle.std.proofs.Common.{arith}
 use Rattle.share_base.proofs.FlatMaps.{part_added}
 use Rattle.config_text.specs.Normal.{side_links}
-use Rattle.config_text.specs.Sides.{sides}
+use Rattle.share_base.specs.Sides.{sides}
 use Rattle.config_text.proofs.config.Config.put_sides.Goals as goal
 
 pub loop-side-preserved : goal.loop-side-preserved

@@ -1,7 +1,7 @@
 use Rattle.std.proofs.Common.{◌≡◌, ◌++◌, drop}
 use Rattle.std.specs.List.{flat_map}
 use Rattle.config_text.specs.Normal.{side_links}
-use Rattle.config_text.specs.Sides.{sides}
+use Rattle.share_base.specs.Sides.{sides}
 use Rattle.config_text.proofs.config.Config.put_sides.Given as goal
 
 abbrev pub invariant-loop-side : goal.invariant-loop-side

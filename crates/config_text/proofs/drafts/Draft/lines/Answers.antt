@@ -1,5 +1,6 @@
-use Rattle.std.proofs.Common.{◌≡◌, ◌∙◌, ◌+◌, sym, arith}
-use Rattle.config_text.proofs.LineRuns.{goes_on, stops, at_end, is_nil}
+use Rattle.std.proofs.Common.{◌∙◌, ◌+◌, sym, arith}
+use Rattle.config_text.proofs.LineRuns.{goes_on, stops, at_end}
+use Rattle.share_base.proofs.Ends.{is_nil}
 use Rattle.config_text.proofs.drafts.Draft.lines.Goals as goal
 
 pub returns-in-Err : goal.returns-in-Err

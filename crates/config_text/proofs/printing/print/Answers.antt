@@ -1,0 +1,11 @@
+use Rattle.std.proofs.Common.{subst}
+use Rattle.std.proofs.lemmas.Result.{on_ok_weaker}
+use Rattle.config_text.specs.Configurations.{Configuration}
+use Rattle.config_text.specs.Normal.{normal}
+use Rattle.config_text.specs.PrintedAgain.{SpellsAgain}
+use Rattle.config_text.proofs.TextAgain.{spelled_again}
+use Rattle.config_text.proofs.printing.print.Goals as goal
+
+pub returns-clause-again : goal.returns-clause-again
+returns-clause-again c =
+    on_ok_weaker c.extend.result (λ _. subst (λ (k : Configuration). SpellsAgain (normal k) k) c.config.view_is (spelled_again _ c.config.invariant)) c.extend.ensures.ok

@@ -1,0 +1,91 @@
+//! Laws of the definitions by which a text is judged. The calls do nothing: their contracts are the laws.
+
+ghost use Rattle.std.specs.Prelude.{◌≡◌, ℕ, Bool, List, length, Ok, Err, Some, None};
+ghost use Rattle.share_base.specs.declared.shape.Side.{Side};
+ghost use Rattle.text_lines.specs.Reading.{Text};
+ghost use Rattle.text_lines.specs.Spelling.{StopsAt};
+ghost use Rattle.option_table.specs.declared.rows.Scope.{Scope};
+ghost use Rattle.config_text.specs.Configurations.{Configuration};
+ghost use Rattle.config_text.specs.Judging.{known_screen, new_screen, new_alias, new_link, new_setting};
+ghost use Rattle.config_text.specs.FaultLists.{known_faults, screen_faults, alias_faults, link_faults, setting_faults, first, refusal_of, AreInOrder};
+ghost use Rattle.config_text.specs.Shapes.{SettingText, LinkText, section_at, header_at, alias_at, link_at, setting_at};
+ghost use Rattle.config_text.specs.Spelling.{SpellsSection, SpellsHeader, SpellsAlias, SpellsSetting, IsSection, IsHeader, IsAlias, IsSetting};
+ghost use Rattle.config_text.specs.SpellingLinks.{SpellsLink, IsLink, side_first};
+
+/// A line is read as `section: NAME` exactly where it is spelled so, and then as one name alone.
+pub fn sections_are_spelled()
+    ensures spelled { (xs : List ℕ) (name : Text) → section_at xs ≡ Ok name → SpellsSection xs name }
+    ensures read { (xs : List ℕ) (name : Text) → SpellsSection xs name → section_at xs ≡ Ok name }
+    ensures one { (xs : List ℕ) (a b : Text) → SpellsSection xs a → SpellsSection xs b → a ≡ b }
+{}
+
+/// A line is read as `NAME:` exactly where it is spelled so, and then as one name alone.
+pub fn headers_are_spelled()
+    ensures spelled { (xs : List ℕ) (name : Text) → header_at xs ≡ Ok name → SpellsHeader xs name }
+    ensures read { (xs : List ℕ) (name : Text) → SpellsHeader xs name → header_at xs ≡ Ok name }
+    ensures one { (xs : List ℕ) (a b : Text) → SpellsHeader xs a → SpellsHeader xs b → a ≡ b }
+{}
+
+/// A line is read as an alias exactly where it is spelled so, and then as one alias alone.
+pub fn aliases_are_spelled()
+    ensures spelled { (xs : List ℕ) (name : Text) → alias_at xs ≡ Ok name → SpellsAlias xs name }
+    ensures read { (xs : List ℕ) (name : Text) → SpellsAlias xs name → alias_at xs ≡ Ok name }
+    ensures one { (xs : List ℕ) (a b : Text) → SpellsAlias xs a → SpellsAlias xs b → a ≡ b }
+{}
+
+/// A line is read as `SIDE[(a,b)] = NAME[(c,d)]` exactly where it is spelled so, and then as one link alone.
+pub fn links_are_spelled()
+    ensures spelled { (xs : List ℕ) (l : LinkText) → link_at xs ≡ Ok l → SpellsLink xs l }
+    ensures read { (xs : List ℕ) (l : LinkText) → SpellsLink xs l → link_at xs ≡ Ok l }
+    ensures one { (xs : List ℕ) (a b : LinkText) → SpellsLink xs a → SpellsLink xs b → a ≡ b }
+{}
+
+/// A line is read as `KEY = VALUE` exactly where it is spelled so, and then as one key and value alone.
+pub fn settings_are_spelled()
+    ensures spelled { (xs : List ℕ) (s : SettingText) → setting_at xs ≡ Ok s → SpellsSetting xs s }
+    ensures read { (xs : List ℕ) (s : SettingText) → SpellsSetting xs s → setting_at xs ≡ Ok s }
+    ensures one { (xs : List ℕ) (a b : SettingText) → SpellsSetting xs a → SpellsSetting xs b → a ≡ b }
+{}
+
+/// Where a line isn't read as one of a form, its bytes before that place begin a line of the form, and
+/// with the byte that stands there they don't.
+pub fn lines_stop_where_they_cannot_go_on()
+    ensures section { (xs : List ℕ) (left : ℕ) → section_at xs ≡ Err left → StopsAt IsSection xs left }
+    ensures header { (xs : List ℕ) (left : ℕ) → header_at xs ≡ Err left → StopsAt IsHeader xs left }
+    ensures alias { (xs : List ℕ) (left : ℕ) → alias_at xs ≡ Err left → StopsAt IsAlias xs left }
+    ensures setting { (xs : List ℕ) (left : ℕ) → setting_at xs ≡ Err left → StopsAt IsSetting xs left }
+{}
+
+/// A line whose first word is no side can't be a link from that word on. One whose first word is a side
+/// stops to be a link as the other forms do.
+pub fn links_stop_where_they_cannot_go_on()
+    ensures no_side { (xs : List ℕ) → side_first xs ≡ None → link_at xs ≡ Err (length xs) }
+    ensures side { (xs : List ℕ) (s : Side) (left : ℕ) → side_first xs ≡ Some s → link_at xs ≡ Err left → StopsAt IsLink xs left }
+    ensures one_place { (xs : List ℕ) (a b : ℕ) → StopsAt IsLink xs a → StopsAt IsLink xs b → a ≡ b }
+{}
+
+/// A line stops to be one of a form at one place alone.
+pub fn lines_stop_at_one_place()
+    ensures section { (xs : List ℕ) (a b : ℕ) → StopsAt IsSection xs a → StopsAt IsSection xs b → a ≡ b }
+    ensures header { (xs : List ℕ) (a b : ℕ) → StopsAt IsHeader xs a → StopsAt IsHeader xs b → a ≡ b }
+    ensures alias { (xs : List ℕ) (a b : ℕ) → StopsAt IsAlias xs a → StopsAt IsAlias xs b → a ≡ b }
+    ensures setting { (xs : List ℕ) (a b : ℕ) → StopsAt IsSetting xs a → StopsAt IsSetting xs b → a ≡ b }
+{}
+
+/// A line is refused for the first of all faults of its words, and taken where they have none.
+pub fn refused_for_the_first_fault()
+    ensures known_screen { (c : Configuration) (name : Text) → refusal_of (known_screen c name) ≡ first (known_faults c name) }
+    ensures new_screen { (whole : ℕ) (c : Configuration) (name : Text) → refusal_of (new_screen whole c name) ≡ first (screen_faults whole c name) }
+    ensures new_alias { (whole : ℕ) (c : Configuration) (screen : ℕ) (name : Text) → refusal_of (new_alias whole c screen name) ≡ first (alias_faults whole c name) }
+    ensures new_link { (whole : ℕ) (c : Configuration) (from : ℕ) (l : LinkText) → refusal_of (new_link whole c from l) ≡ first (link_faults whole c from l) }
+    ensures new_setting { (stands : Scope → Bool) (s : SettingText) → refusal_of (new_setting stands s) ≡ first (setting_faults stands s) }
+{}
+
+/// The faults of a line's words stand by class, and within a class from the left.
+pub fn faults_stand_in_order()
+    ensures known_screen { (c : Configuration) (name : Text) → AreInOrder (known_faults c name) }
+    ensures new_screen { (whole : ℕ) (c : Configuration) (name : Text) → AreInOrder (screen_faults whole c name) }
+    ensures new_alias { (whole : ℕ) (c : Configuration) (name : Text) → AreInOrder (alias_faults whole c name) }
+    ensures new_link { (xs : List ℕ) (whole : ℕ) (c : Configuration) (from : ℕ) (l : LinkText) → SpellsLink xs l → AreInOrder (link_faults whole c from l) }
+    ensures new_setting { (xs : List ℕ) (stands : Scope → Bool) (s : SettingText) → SpellsSetting xs s → AreInOrder (setting_faults stands s) }
+{}
