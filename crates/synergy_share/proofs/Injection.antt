@@ -92,17 +92,7 @@ balances messages old new written =
 
 by_end : (end : Status) (messages : List Msg) (old new : Option (List ℕ)) → Writes injecting end messages old new → Releases end old new
 by_end status.WriteFault messages old new w = tt
-by_end status.Ok messages old new w = balances messages old new w
-by_end (status.BadFrames place why) messages old new w = balances messages old new w
-by_end (status.NotYet place) messages old new w = balances messages old new w
-by_end (status.Lost cause) messages old new w = balances messages old new w
-by_end status.InputTooLong messages old new w = balances messages old new w
-by_end status.Usage messages old new w = balances messages old new w
-by_end status.LinkFault messages old new w = balances messages old new w
-by_end status.TurnsSpent messages old new w = balances messages old new w
-by_end (status.Refused which) messages old new w = balances messages old new w
-by_end status.ReadFault messages old new w = balances messages old new w
-by_end status.OutOfMemory messages old new w = balances messages old new w
+by_end _ messages old new w = balances messages old new w
 
 pub releases_all : (end : Status) (left left' old new : Option (List ℕ)) (ended : Option Bool) → Reads injecting end left left' ended old new → Releases end old new
 releases_all end left left' old new ended r = by_end end r.messages old new r.writes

@@ -5,3 +5,4 @@ pub mod Runs
 pub mod OneSplit
 pub mod Injection
 pub mod OneEnd
+pub mod Checked

@@ -176,46 +176,17 @@ reads_finished w end result total left l l' taken taken' new ended messages rest
     ]
   where
     writes_all : (e : Status) → e ≢ status.WriteFault → new ≡ after taken (all_lines w messages) → Writes w e messages taken new
-    writes_all status.Ok other is = is
-    writes_all (status.BadFrames place why) other is = is
-    writes_all (status.NotYet place) other is = is
-    writes_all (status.Lost cause) other is = is
-    writes_all status.InputTooLong other is = is
-    writes_all status.Usage other is = is
-    writes_all status.LinkFault other is = is
-    writes_all status.TurnsSpent other is = is
-    writes_all (status.Refused which) other is = is
-    writes_all status.ReadFault other is = is
     writes_all status.WriteFault other is = absurd (other refl)
-    writes_all status.OutOfMemory other is = is
+    writes_all _ other is = is
 
 source_or : (end : Status) (source source' : ℕ) → end ≢ status.WriteFault → SourceCounts end source source' → (source' ≡ source) ⊎ Rises source source'
-source_or status.Ok source source' fine c = inl c
-source_or (status.BadFrames place why) source source' fine c = inl c
-source_or (status.NotYet place) source source' fine c = inl c
-source_or (status.Lost cause) source source' fine c = inl c
-source_or status.InputTooLong source source' fine c = inl c
-source_or status.Usage source source' fine c = inl c
-source_or status.LinkFault source source' fine c = inl c
-source_or status.TurnsSpent source source' fine c = inl c
-source_or (status.Refused which) source source' fine c = inl c
 source_or status.ReadFault source source' fine c = inr c
 source_or status.WriteFault source source' fine c = absurd (fine refl)
-source_or status.OutOfMemory source source' fine c = inl c
+source_or _ source source' fine c = inl c
 
 sink_same : (end : Status) (sink sink' : ℕ) → end ≢ status.WriteFault → sink' ≡ sink → SinkCounts end sink sink'
-sink_same status.Ok sink sink' fine same = same
-sink_same (status.BadFrames place why) sink sink' fine same = same
-sink_same (status.NotYet place) sink sink' fine same = same
-sink_same (status.Lost cause) sink sink' fine same = same
-sink_same status.InputTooLong sink sink' fine same = same
-sink_same status.Usage sink sink' fine same = same
-sink_same status.LinkFault sink sink' fine same = same
-sink_same status.TurnsSpent sink sink' fine same = same
-sink_same (status.Refused which) sink sink' fine same = same
-sink_same status.ReadFault sink sink' fine same = same
 sink_same status.WriteFault sink sink' fine same = absurd (fine refl)
-sink_same status.OutOfMemory sink sink' fine same = same
+sink_same _ sink sink' fine same = same
 
 -- the counts at the end: the input's is as the end says, and the output's rose where the last lines were not taken
 pub causes_finished : (w : Way) (end result : Status) (messages : List Msg) (old new : Option (List ℕ)) (source source' sink middle sink' : ℕ) → SourceCounts end source source' → middle ≡ sink → end ≢ status.WriteFault
@@ -238,32 +209,20 @@ ends_at_end w end total l l' e e' buffer messages rest read partial here gives e
 
 -- a command whose end the bytes decide has no fault
 pub fine_by_bytes : (end : Status) → IsByBytes end → end ≢ status.WriteFault
-fine_by_bytes status.WriteFault by same = by
 fine_by_bytes status.Ok by same = absurd cc
 fine_by_bytes (status.BadFrames place why) by same = absurd cc
 fine_by_bytes (status.NotYet place) by same = absurd cc
 fine_by_bytes (status.Lost cause) by same = absurd cc
-fine_by_bytes status.InputTooLong by same = by
-fine_by_bytes status.Usage by same = by
-fine_by_bytes status.LinkFault by same = by
-fine_by_bytes status.TurnsSpent by same = by
 fine_by_bytes (status.Refused which) by same = absurd cc
-fine_by_bytes status.ReadFault by same = by
-fine_by_bytes status.OutOfMemory by same = by
+fine_by_bytes _ by same = by
 
 pub source_by_bytes : (end : Status) (source source' : ℕ) → IsByBytes end → source' ≡ source → SourceCounts end source source'
-source_by_bytes status.WriteFault source source' by same = absurd by
 source_by_bytes status.Ok source source' by same = same
 source_by_bytes (status.BadFrames place why) source source' by same = same
 source_by_bytes (status.NotYet place) source source' by same = same
 source_by_bytes (status.Lost cause) source source' by same = same
-source_by_bytes status.InputTooLong source source' by same = absurd by
-source_by_bytes status.Usage source source' by same = absurd by
-source_by_bytes status.LinkFault source source' by same = absurd by
-source_by_bytes status.TurnsSpent source source' by same = absurd by
 source_by_bytes (status.Refused which) source source' by same = same
-source_by_bytes status.ReadFault source source' by same = absurd by
-source_by_bytes status.OutOfMemory source source' by same = absurd by
+source_by_bytes _ source source' by same = absurd by
 
 -- the lines of the messages are all written
 pub all_written : (w : Way) (lines : List ℕ) (messages : List Msg) (written : List ℕ) → Printed w lines messages written → lines ≡ [] → written ≡ w.text messages

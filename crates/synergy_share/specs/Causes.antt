@@ -7,32 +7,28 @@ use Rattle.synergy_share.specs.declared.status.Status.TheVariants as status
 -- the count of the output's faults rose at a write fault, and stayed at every other status
 abbrev pub SinkCounts : Status → ℕ → ℕ → Type 0
 SinkCounts status.WriteFault old new = Rises old new
-SinkCounts status.Ok old new = new ≡ old
-SinkCounts (status.BadFrames place reason) old new = new ≡ old
-SinkCounts (status.NotYet place) old new = new ≡ old
-SinkCounts (status.Lost cause) old new = new ≡ old
-SinkCounts status.InputTooLong old new = new ≡ old
-SinkCounts status.ReadFault old new = new ≡ old
-SinkCounts status.OutOfMemory old new = new ≡ old
-SinkCounts status.Usage old new = new ≡ old
-SinkCounts status.LinkFault old new = new ≡ old
-SinkCounts status.TurnsSpent old new = new ≡ old
-SinkCounts (status.Refused which) old new = new ≡ old
+SinkCounts _ old new = new ≡ old
 
 -- the count of the input's faults rose at a read fault, and stayed at every other status; where the last lines could not be written after a read fault, the write fault is answered
 abbrev pub SourceCounts : Status → ℕ → ℕ → Type 0
 SourceCounts status.ReadFault old new = Rises old new
 SourceCounts status.WriteFault old new = (new ≡ old) ⊎ Rises old new
-SourceCounts status.Ok old new = new ≡ old
-SourceCounts (status.BadFrames place reason) old new = new ≡ old
-SourceCounts (status.NotYet place) old new = new ≡ old
-SourceCounts (status.Lost cause) old new = new ≡ old
-SourceCounts status.InputTooLong old new = new ≡ old
-SourceCounts status.OutOfMemory old new = new ≡ old
-SourceCounts status.Usage old new = new ≡ old
-SourceCounts status.LinkFault old new = new ≡ old
-SourceCounts status.TurnsSpent old new = new ≡ old
-SourceCounts (status.Refused which) old new = new ≡ old
+SourceCounts _ old new = new ≡ old
 
 abbrev pub Causes : Status → ℕ → ℕ → ℕ → ℕ → Type 0
 Causes end source source' sink sink' = SourceCounts end source source' × SinkCounts end sink sink'
+
+-- the count of the files' faults rose at a read fault, and stayed at every other status
+abbrev pub FileCounts : Status → ℕ → ℕ → Type 0
+FileCounts status.ReadFault old new = Rises old new
+FileCounts _ old new = new ≡ old
+
+abbrev pub FileCauses : Status → ℕ → ℕ → ℕ → ℕ → Type 0
+FileCauses end files files' sink sink' = FileCounts end files files' × SinkCounts end sink sink'
+
+-- a command reads the input or a file: one of the counts goes by the status, and the other stayed
+abbrev pub ReadCounts : Status → ℕ → ℕ → ℕ → ℕ → Type 0
+ReadCounts end files files' source source' = (FileCounts end files files' × (source' ≡ source)) ⊎ (SourceCounts end source source' × (files' ≡ files))
+
+abbrev pub AllCauses : Status → ℕ → ℕ → ℕ → ℕ → ℕ → ℕ → Type 0
+AllCauses end files files' source source' sink sink' = ReadCounts end files files' source source' × SinkCounts end sink sink'

@@ -25,13 +25,7 @@ IsByBytes (status.BadFrames place why) = Unit {0}
 IsByBytes (status.NotYet place) = Unit {0}
 IsByBytes (status.Lost cause) = Unit {0}
 IsByBytes (status.Refused which) = Unit {0}
-IsByBytes status.LinkFault = ⊥
-IsByBytes status.TurnsSpent = ⊥
-IsByBytes status.InputTooLong = ⊥
-IsByBytes status.Usage = ⊥
-IsByBytes status.ReadFault = ⊥
-IsByBytes status.WriteFault = ⊥
-IsByBytes status.OutOfMemory = ⊥
+IsByBytes _ = ⊥
 
 -- it goes on at less than a frame, or has ended at the frame there
 abbrev pub StandsAt : Way → Option Status → ℕ → List ℕ → Type 0

@@ -5,6 +5,7 @@ pub mod Cores
 pub mod Shower
 pub mod Injecting
 pub mod Commands
+pub mod Checking
 pub mod Causes
 pub mod Statuses
 pub mod Words

@@ -2,6 +2,7 @@
 use Rattle.std.specs.Prelude.{ℕ, List, [], ◌∷◌, ◌++◌, codes}
 use Rattle.std.specs.Fmt.{decimal}
 use Rattle.share_base.specs.Reasons.{reason_text}
+use Rattle.config_text.specs.Kinds.{kind_text}
 use Rattle.synergy_share.specs.declared.status.Status.{Status}
 use Rattle.synergy_share.specs.declared.status.Status.TheVariants as status
 use Rattle.client_core.specs.declared.client_end.LostCause.TheVariants as lost
@@ -16,6 +17,7 @@ status_row code text = record { code = code; text = text }
 
 abbrev pub row : Status → StatusRow
 row status.Ok = status_row 0 []
+row (status.BadConfig line column kind) = status_row 1 (codes "config " ++ decimal line ++ 32 ∷ [] ++ decimal column ++ 32 ∷ [] ++ kind_text kind ++ 10 ∷ [])
 row (status.BadFrames place reason) = status_row 1 (codes "frames " ++ decimal place ++ 32 ∷ [] ++ reason_text reason ++ 10 ∷ [])
 row status.InputTooLong = status_row 1 (codes "input too long\n")
 row status.Usage = status_row 2 (codes "usage\n")

@@ -5,6 +5,9 @@
 //! the crates below know.
 #![tactic(auto)]
 
+#[cfg(test)]
+mod check_tests;
+mod checking;
 mod command;
 mod commands;
 mod inject_core;
@@ -18,11 +21,12 @@ mod status;
 mod tests;
 mod top;
 
+pub use checking::run_check;
 pub use command::{Command, form};
 pub use commands::{run_inject, run_show};
-pub use laws::{one_end, one_reading};
+pub use laws::{file_decides, one_end, one_reading, refusals_name_lines};
 pub use line_core::LineCore;
-pub use real::{StdSink, StdSource};
+pub use real::{StdFiles, StdSink, StdSource};
 pub use show_core::ShowCore;
 pub use status::Status;
 use std::env;
@@ -45,10 +49,11 @@ fn words_of(rt: &HostRuntime) -> Result<Vec<String>, Status> {
 }
 
 fn main(rt: HostRuntime) -> ExitCode {
+    let mut files = StdFiles::new(&rt, rt.alloc());
     let mut input = StdSource::new(rt.stdin());
     let mut out = StdSink::new(rt.stdout());
     let status = match words_of(&rt) {
-        Ok(words) => run(rt.alloc(), &words, &mut input, &mut out),
+        Ok(words) => run(rt.alloc(), &words, &mut files, &mut input, &mut out),
         Err(status) => status,
     };
     // Where even standard error fails, the exit code is left to tell.

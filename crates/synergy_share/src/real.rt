@@ -1,8 +1,12 @@
-//! Standard input and output as a source and a sink. They count their faults, and tell no bytes to
-//! contracts: what the system gives or takes no clause can say. A read or a write that a signal
-//! interrupted is made again, and is no fault.
+//! Standard input and output as a source and a sink, and the files of the system. They count their
+//! faults, and tell no bytes to contracts: what the system gives or takes no clause can say. A read or
+//! a write that a signal interrupted is made again, and is no fault.
 
-use share_base::{Sink, SinkAnswer, Source, SourceAnswer};
+ghost use Rattle.share_base.specs.Stored.{FileGives, FileFaults};
+
+use share_base::{FileAnswer, Files, Octets, Sink, SinkAnswer, Source, SourceAnswer};
+use std::alloc::Global;
+use std::fs;
 use std::io::{ErrorKind, Read, Write};
 
 /// Standard input, or any reader.
@@ -79,5 +83,80 @@ impl<W: Write + Drop> Sink for StdSink<W> {
         }
         self.faults = self.faults.saturating_add(1);
         SinkAnswer::Failed
+    }
+}
+
+/// The files of the system, or of what stands in for it.
+#[derive(Drop)]
+pub struct StdFiles<'a, R: fs::Files> {
+    files: &'a R,
+    alloc: Global,
+    calls: u64,
+    faults: u64,
+    overs: u64,
+}
+
+impl<'a, R: fs::Files> StdFiles<'a, R> {
+    /// It takes no memory and can't fail. What is read takes its memory from `alloc`.
+    pub fn new(files: &'a R, alloc: Global) -> StdFiles<'a, R> {
+        StdFiles {
+            files,
+            alloc,
+            calls: 0,
+            faults: 0,
+            overs: 0,
+        }
+    }
+}
+
+/// All that a source gives, as a file of at most `limit` bytes. Of more, one byte past the limit is
+/// read at most.
+fn read_whole<S: Source>(alloc: Global, source: &mut S, limit: u64) -> FileAnswer
+    ensures gives { FileGives result limit (S.left source.old) }
+    ensures faults { FileFaults result (S.faults source.old) (S.faults source.new) }
+{
+    let mut bytes = Octets::new(alloc);
+    let mut buffer = [0u8; 4096];
+    loop {
+        let left = limit - bytes.len() as u64;
+        let asked = left.min(4095) as usize + 1;
+        match source.read(&mut buffer[..asked]) {
+            SourceAnswer::End => return FileAnswer::Bytes(bytes),
+            SourceAnswer::Failed => return FileAnswer::Failed,
+            SourceAnswer::Got(n) => {
+                if n as u64 > left {
+                    return FileAnswer::TooBig;
+                }
+                let Ok(()) = bytes.extend(&buffer[..n]) else {
+                    return FileAnswer::OutOfMemory;
+                };
+            }
+        }
+    }
+}
+
+impl<'a, R: fs::Files> Files for StdFiles<'a, R> {
+    ghost use Rattle.std.specs.Prelude.{None};
+
+    ghost told = { λ _ _. None };
+
+    ghost calls = { λ f. f.calls };
+
+    ghost faults = { λ f. f.faults };
+
+    ghost overs = { λ f. f.overs };
+
+    fn read_all(&mut self, name: &str, limit: u64) -> FileAnswer {
+        self.calls = self.calls.saturating_add(1);
+        let answer = match fs::open(self.files, name) {
+            Ok(file) => read_whole(self.alloc, &mut StdSource::new(file), limit),
+            Err(_) => FileAnswer::Failed,
+        };
+        match &answer {
+            FileAnswer::TooBig => self.overs = self.overs.saturating_add(1),
+            FileAnswer::Failed => self.faults = self.faults.saturating_add(1),
+            FileAnswer::Bytes(_) | FileAnswer::OutOfMemory => {}
+        }
+        answer
     }
 }

@@ -1,15 +1,27 @@
 //! How a command ends.
 
-ghost use Rattle.std.specs.Prelude.{◌≡◌};
+ghost use Rattle.std.specs.Prelude.{◌≡◌, [], ◌∷◌, ◌++◌, codes};
+ghost use Rattle.std.specs.Fmt.{decimal};
+ghost use Rattle.config_text.specs.Kinds.{kind_text};
 
 use client_core::{LostCause, Which};
-use share_base::{Lines, Reason, put_u64};
+use config_text::ConfigKind;
+use share_base::{Lines, Reason, put_u32, put_u64};
 
 /// How a command ends. `docs/protocol.md` has the table of codes and lines.
 #[derive(Clone, Copy, Debug, PartialEq, Eq)]
 pub enum Status {
     /// All was done.
     Ok,
+    /// A configuration is refused.
+    BadConfig {
+        /// Its line, from 1; 0 where the file is too big.
+        line: u32,
+        /// The place in the line, from 1; 0 where the file is too big.
+        column: u32,
+        /// What is wrong there.
+        kind: ConfigKind,
+    },
     /// A frame is bad, at that place, the number of bytes before it.
     BadFrames {
         /// Where its length field begins.
@@ -42,6 +54,20 @@ pub enum Status {
     Lost(LostCause),
 }
 
+/// Where and why a configuration is refused, on a line that is empty yet.
+fn put_refusal(text: &mut Lines, line: u32, column: u32, kind: ConfigKind)
+    requires { text.old ≡ [] }
+    ensures { text.new ≡ codes "config " ++ decimal line ++ 32 ∷ [] ++ decimal column ++ 32 ∷ [] ++ kind_text kind ++ 10 ∷ [] }
+{
+    text.extend(b"config ");
+    put_u32(text, line);
+    text.extend(b" ");
+    put_u32(text, column);
+    text.extend(b" ");
+    text.extend(kind.text());
+    text.extend(b"\n");
+}
+
 impl Status {
     ghost use Rattle.synergy_share.specs.Statuses.{exit_code, status_line};
 
@@ -51,7 +77,7 @@ impl Status {
     {
         match self {
             Status::Ok => 0,
-            Status::BadFrames { .. } | Status::InputTooLong => 1,
+            Status::BadConfig { .. } | Status::BadFrames { .. } | Status::InputTooLong => 1,
             Status::Usage => 2,
             Status::ReadFault => 3,
             Status::WriteFault => 4,
@@ -68,38 +94,39 @@ impl Status {
     pub fn report(&self) -> Lines
         ensures { result ≡ status_line self.now }
     {
-        let mut line = Lines::new();
+        let mut text = Lines::new();
         match *self {
             Status::Ok => {}
-            Status::InputTooLong => line.extend(b"input too long\n"),
-            Status::Usage => line.extend(b"usage\n"),
-            Status::ReadFault => line.extend(b"read fault\n"),
-            Status::WriteFault => line.extend(b"write fault\n"),
-            Status::OutOfMemory => line.extend(b"out of memory\n"),
-            Status::LinkFault => line.extend(b"link fault\n"),
-            Status::TurnsSpent => line.extend(b"turns spent\n"),
-            Status::Refused(Which::Version) => line.extend(b"refused version\n"),
-            Status::Refused(Which::Eicv) => line.extend(b"refused EICV\n"),
-            Status::Refused(Which::Ebsy) => line.extend(b"refused EBSY\n"),
-            Status::Refused(Which::Eunk) => line.extend(b"refused EUNK\n"),
-            Status::Refused(Which::Ebad) => line.extend(b"refused EBAD\n"),
-            Status::Lost(LostCause::Ended) => line.extend(b"lost ended\n"),
-            Status::Lost(LostCause::Failed) => line.extend(b"lost failed\n"),
-            Status::Lost(LostCause::Dead) => line.extend(b"lost dead\n"),
-            Status::Lost(LostCause::Slow) => line.extend(b"lost slow\n"),
+            Status::InputTooLong => text.extend(b"input too long\n"),
+            Status::Usage => text.extend(b"usage\n"),
+            Status::ReadFault => text.extend(b"read fault\n"),
+            Status::WriteFault => text.extend(b"write fault\n"),
+            Status::OutOfMemory => text.extend(b"out of memory\n"),
+            Status::LinkFault => text.extend(b"link fault\n"),
+            Status::TurnsSpent => text.extend(b"turns spent\n"),
+            Status::Refused(Which::Version) => text.extend(b"refused version\n"),
+            Status::Refused(Which::Eicv) => text.extend(b"refused EICV\n"),
+            Status::Refused(Which::Ebsy) => text.extend(b"refused EBSY\n"),
+            Status::Refused(Which::Eunk) => text.extend(b"refused EUNK\n"),
+            Status::Refused(Which::Ebad) => text.extend(b"refused EBAD\n"),
+            Status::Lost(LostCause::Ended) => text.extend(b"lost ended\n"),
+            Status::Lost(LostCause::Failed) => text.extend(b"lost failed\n"),
+            Status::Lost(LostCause::Dead) => text.extend(b"lost dead\n"),
+            Status::Lost(LostCause::Slow) => text.extend(b"lost slow\n"),
+            Status::BadConfig { line, column, kind } => put_refusal(&mut text, line, column, kind),
             Status::BadFrames { place, reason } => {
-                line.extend(b"frames ");
-                put_u64(&mut line, place);
-                line.extend(b" ");
-                line.extend(reason.text());
-                line.extend(b"\n");
+                text.extend(b"frames ");
+                put_u64(&mut text, place);
+                text.extend(b" ");
+                text.extend(reason.text());
+                text.extend(b"\n");
             }
             Status::NotYet { place } => {
-                line.extend(b"not yet ");
-                put_u64(&mut line, place);
-                line.extend(b"\n");
+                text.extend(b"not yet ");
+                put_u64(&mut text, place);
+                text.extend(b"\n");
             }
         }
-        line
+        text
     }
 }

@@ -4,7 +4,8 @@ use super::*;
 use client_core::{LostCause, Which};
 use message_codec::End;
 use share_base::{
-    MemorySink, MemorySource, OutOfMemory, Reason, Sink, SinkAnswer, Source, SourceAnswer,
+    MemoryFiles, MemorySink, MemorySource, OutOfMemory, Reason, Sink, SinkAnswer, Source,
+    SourceAnswer,
 };
 use std::alloc::Global;
 use std::io;
@@ -32,10 +33,10 @@ const HELLO: [u8; 22] = *b"\x00\x00\x00\x12Synergy\x00\x01\x00\x06\x00\x00\x00\x
 
 const TOO_LONG: [u8; 4] = *b"\x00\x40\x00\x01";
 
-/// What is read, at which calls the sink fails, and what must come of it.
+/// Whose messages are shown, or that a server's are injected; what is read; at which calls the sink fails; and what must come of it.
 #[derive(Drop)]
 struct Row<'a> {
-    command: Command,
+    shows: Option<End>,
     parts: &'a [&'a [u8]],
     failing: &'a [u64],
     lines: &'a [u8],
@@ -49,9 +50,9 @@ fn passes(alloc: Global, row: &Row) -> Result<bool, OutOfMemory> {
     }
     let mut input = MemorySource::new(alloc, &bytes, &[])?;
     let mut out = MemorySink::new(alloc, 1000, row.failing)?;
-    let status = match row.command {
-        Command::Inject => run_inject(alloc, &mut input, &mut out),
-        Command::Show(end) => run_show(alloc, end, &mut input, &mut out),
+    let status = match row.shows {
+        None => run_inject(alloc, &mut input, &mut out),
+        Some(end) => run_show(alloc, end, &mut input, &mut out),
     };
     Ok(status == row.status && out.bytes() == row.lines)
 }
@@ -60,28 +61,28 @@ fn passes(alloc: Global, row: &Row) -> Result<bool, OutOfMemory> {
 fn injection_ends_as_its_server_does(rt: HostRuntime) {
     let rows = [
         Row {
-            command: Command::Inject,
+            shows: None,
             parts: &[],
             failing: &[],
             lines: b"",
             status: Status::Lost(LostCause::Ended),
         },
         Row {
-            command: Command::Inject,
+            shows: None,
             parts: &[&BYE, &[255; 4]],
             failing: &[],
             lines: b"",
             status: Status::Ok,
         },
         Row {
-            command: Command::Inject,
+            shows: None,
             parts: &[&ENTER, &CLIPBOARD],
             failing: &[],
             lines: b"enter 0 384 1 0\n",
             status: Status::NotYet { place: 18 },
         },
         Row {
-            command: Command::Inject,
+            shows: None,
             parts: &[&ENTER, &[0, 0]],
             failing: &[],
             lines: b"enter 0 384 1 0\n",
@@ -91,7 +92,7 @@ fn injection_ends_as_its_server_does(rt: HostRuntime) {
             },
         },
         Row {
-            command: Command::Inject,
+            shows: None,
             parts: &[&ENTER, &TOO_LONG],
             failing: &[],
             lines: b"enter 0 384 1 0\n",
@@ -110,21 +111,21 @@ fn injection_ends_as_its_server_does(rt: HostRuntime) {
 fn injection_lets_go_at_every_end(rt: HostRuntime) {
     let rows = [
         Row {
-            command: Command::Inject,
+            shows: None,
             parts: &[&ENTER, &KEY, &BUTTON, &LEAVE, &BYE],
             failing: &[],
             lines: b"enter 0 384 1 0\nkey down 97 38 0\nbutton down 3\nkey up 97 38\nbutton up 3\nleave\n",
             status: Status::Ok,
         },
         Row {
-            command: Command::Inject,
+            shows: None,
             parts: &[&ENTER, &KEY, &BUTTON],
             failing: &[],
             lines: b"enter 0 384 1 0\nkey down 97 38 0\nbutton down 3\nkey up 97 38\nbutton up 3\n",
             status: Status::Lost(LostCause::Ended),
         },
         Row {
-            command: Command::Inject,
+            shows: None,
             parts: &[&ENTER, &KEY, &KEY_UP[..13]],
             failing: &[],
             lines: b"enter 0 384 1 0\nkey down 97 38 0\nkey up 97 38\n",
@@ -134,14 +135,14 @@ fn injection_lets_go_at_every_end(rt: HostRuntime) {
             },
         },
         Row {
-            command: Command::Inject,
+            shows: None,
             parts: &[&ENTER, &KEY, &BUTTON],
             failing: &[1],
             lines: b"",
             status: Status::WriteFault,
         },
         Row {
-            command: Command::Inject,
+            shows: None,
             parts: &[&ENTER, &KEY, &BUTTON],
             failing: &[2],
             lines: b"enter 0 384 1 0\nkey down 97 38 0\nbutton down 3\n",
@@ -157,35 +158,35 @@ fn injection_lets_go_at_every_end(rt: HostRuntime) {
 fn injection_lets_go_at_refusals(rt: HostRuntime) {
     let rows = [
         Row {
-            command: Command::Inject,
+            shows: None,
             parts: &[&KEY, b"\x00\x00\x00\x04EBSY"],
             failing: &[],
             lines: b"key down 97 38 0\nkey up 97 38\n",
             status: Status::Refused(Which::Ebsy),
         },
         Row {
-            command: Command::Inject,
+            shows: None,
             parts: &[&KEY, b"\x00\x00\x00\x04EUNK"],
             failing: &[],
             lines: b"key down 97 38 0\nkey up 97 38\n",
             status: Status::Refused(Which::Eunk),
         },
         Row {
-            command: Command::Inject,
+            shows: None,
             parts: &[&KEY, b"\x00\x00\x00\x04EBAD"],
             failing: &[],
             lines: b"key down 97 38 0\nkey up 97 38\n",
             status: Status::Refused(Which::Ebad),
         },
         Row {
-            command: Command::Inject,
+            shows: None,
             parts: &[&KEY, b"\x00\x00\x00\x08EICV\x00\x01\x00\x06"],
             failing: &[],
             lines: b"key down 97 38 0\nkey up 97 38\n",
             status: Status::Refused(Which::Eicv),
         },
         Row {
-            command: Command::Inject,
+            shows: None,
             parts: &[&KEY, &TOO_LONG],
             failing: &[],
             lines: b"key down 97 38 0\nkey up 97 38\n",
@@ -195,7 +196,7 @@ fn injection_lets_go_at_refusals(rt: HostRuntime) {
             },
         },
         Row {
-            command: Command::Inject,
+            shows: None,
             parts: &[&KEY, b"\x00\x00\x00\x04WHAT"],
             failing: &[],
             lines: b"key down 97 38 0\nkey up 97 38\n",
@@ -214,14 +215,14 @@ fn injection_lets_go_at_refusals(rt: HostRuntime) {
 fn messages_are_shown_in_order(rt: HostRuntime) {
     let rows = [
         Row {
-            command: Command::Show(End::Server),
+            shows: Some(End::Server),
             parts: &[],
             failing: &[],
             lines: b"",
             status: Status::Ok,
         },
         Row {
-            command: Command::Show(End::Client),
+            shows: Some(End::Client),
             parts: &[&HELLO, &TOO_LONG],
             failing: &[],
             lines: b"Synergy 1 6 706164\n",
@@ -231,21 +232,21 @@ fn messages_are_shown_in_order(rt: HostRuntime) {
             },
         },
         Row {
-            command: Command::Show(End::Client),
+            shows: Some(End::Client),
             parts: &[&HELLO, &INFO],
             failing: &[],
             lines: b"Synergy 1 6 706164\nDINF 0 0 1024 768 0 512 384\n",
             status: Status::Ok,
         },
         Row {
-            command: Command::Show(End::Server),
+            shows: Some(End::Server),
             parts: &[&LEAVE, &BYE, &LEAVE],
             failing: &[],
             lines: b"COUT\nCBYE\nCOUT\n",
             status: Status::Ok,
         },
         Row {
-            command: Command::Show(End::Server),
+            shows: Some(End::Server),
             parts: &[&LEAVE, &[0, 0, 0, 4, b'C']],
             failing: &[],
             lines: b"COUT\n",
@@ -255,7 +256,7 @@ fn messages_are_shown_in_order(rt: HostRuntime) {
             },
         },
         Row {
-            command: Command::Show(End::Client),
+            shows: Some(End::Client),
             parts: &[&ENTER],
             failing: &[],
             lines: b"",
@@ -265,7 +266,7 @@ fn messages_are_shown_in_order(rt: HostRuntime) {
             },
         },
         Row {
-            command: Command::Show(End::Server),
+            shows: Some(End::Server),
             parts: &[&LEAVE],
             failing: &[1],
             lines: b"",
@@ -314,7 +315,11 @@ fn words_name_a_command_or_none(rt: HostRuntime) -> Result<(), Fail> {
         let mut input = MemorySource::new(rt.alloc(), &[], &[])?;
         let mut out = MemorySink::new(rt.alloc(), 0, &[])?;
         let words = vec![in rt.alloc(); String::from_str(rt.alloc(), word)?]?;
-        assert_eq!(rt; run(rt.alloc(), &words, &mut input, &mut out), status);
+        let mut files = MemoryFiles::new(rt.alloc(), &[])?;
+        assert_eq!(rt;
+            run(rt.alloc(), &words, &mut files, &mut input, &mut out),
+            status
+        );
     }
     for (word, status) in [
         ("server", Status::Ok),
@@ -325,7 +330,11 @@ fn words_name_a_command_or_none(rt: HostRuntime) -> Result<(), Fail> {
         let mut out = MemorySink::new(rt.alloc(), 0, &[])?;
         let show = String::from_str(rt.alloc(), "show")?;
         let words = vec![in rt.alloc(); show, String::from_str(rt.alloc(), word)?]?;
-        assert_eq!(rt; run(rt.alloc(), &words, &mut input, &mut out), status);
+        let mut files = MemoryFiles::new(rt.alloc(), &[])?;
+        assert_eq!(rt;
+            run(rt.alloc(), &words, &mut files, &mut input, &mut out),
+            status
+        );
     }
     Ok(())
 }
