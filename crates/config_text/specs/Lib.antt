@@ -6,6 +6,8 @@ pub mod Configurations
 pub mod Drafts
 pub mod FaultLists
 pub mod Globals
+pub mod HotkeyFaults
+pub mod HotkeyMeanings
 pub mod Hotkeys
 pub mod Judging
 pub mod Kinds

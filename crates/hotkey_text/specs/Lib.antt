@@ -1,6 +1,8 @@
 pub mod Again
 pub mod Arguments
+pub mod ChordWords
 pub mod Chords
+pub mod FaultLists
 pub mod Faults
 pub mod Keys
 pub mod Lists
@@ -10,3 +12,5 @@ pub mod Printed
 pub mod Seen
 pub mod Shapes
 pub mod Spelled
+pub mod Spelling
+pub mod SpellingWords

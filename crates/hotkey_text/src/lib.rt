@@ -13,6 +13,7 @@
 
 mod arguments;
 mod chords;
+mod fault_laws;
 mod faults;
 mod forms;
 mod keys;
@@ -24,10 +25,12 @@ mod mod_reading;
 mod names;
 mod printing;
 mod shapes;
+mod spelling_laws;
 #[cfg(test)]
 mod tests;
 
 pub use arguments::{ActionWords, ScreenWord};
+pub use fault_laws::{words_are_refused_for_their_first_fault, words_faults_stand_from_the_left};
 pub use faults::{HotkeyFault, HotkeyKind};
 pub use forms::ActionForm;
 pub use laws::{chords_again, key_again, line_again, words_again};
@@ -36,3 +39,7 @@ pub use meaning::{action_words, trigger};
 pub use names::{Deed, TriggerKind};
 pub use printing::{between, put_action, put_trigger};
 pub use shapes::{HotkeyForm, hotkey, is_hotkey};
+pub use spelling_laws::{
+    actions_are_spelled, chord_words_are_spelled, hotkeys_are_spelled, hotkeys_begin_with_their_word,
+    hotkeys_stop_where_they_cannot_go_on, six_turns_are_enough, triggers_are_spelled,
+};
