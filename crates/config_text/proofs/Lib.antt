@@ -8,6 +8,9 @@ pub mod Bounds
 pub mod CleanLines
 pub mod FaultOrder
 pub mod FirstFaults
+pub mod FirstHotkeyFaults
+pub mod HotkeyFaultOrder
+pub mod HotkeyMeanings
 pub mod HotkeysAgain
 pub mod KeyPlaces
 pub mod KeysAgain

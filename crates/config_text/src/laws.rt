@@ -5,9 +5,14 @@ ghost use Rattle.share_base.specs.declared.shape.Side.{Side};
 ghost use Rattle.text_lines.specs.Reading.{Text};
 ghost use Rattle.text_lines.specs.Spelling.{StopsAt};
 ghost use Rattle.option_table.specs.declared.rows.Scope.{Scope};
+ghost use Rattle.hotkey_text.specs.Shapes.{HotkeyForm};
+ghost use Rattle.hotkey_text.specs.Spelling.{SpellsHotkey};
 ghost use Rattle.config_text.specs.Configurations.{Configuration};
 ghost use Rattle.config_text.specs.Judging.{known_screen, new_screen, new_alias, new_link, new_setting};
 ghost use Rattle.config_text.specs.FaultLists.{known_faults, screen_faults, alias_faults, link_faults, setting_faults, first, refusal_of, AreInOrder};
+ghost use Rattle.config_text.specs.Hotkeys.{new_hotkey};
+ghost use Rattle.config_text.specs.HotkeyFaults.{hotkey_faults};
+ghost use Rattle.config_text.specs.HotkeyMeanings.{MeansHotkey};
 ghost use Rattle.config_text.specs.Shapes.{SettingText, LinkText, section_at, header_at, alias_at, link_at, setting_at};
 ghost use Rattle.config_text.specs.Spelling.{SpellsSection, SpellsHeader, SpellsAlias, SpellsSetting, IsSection, IsHeader, IsAlias, IsSetting};
 ghost use Rattle.config_text.specs.SpellingLinks.{SpellsLink, IsLink, side_first};
@@ -79,6 +84,7 @@ pub fn refused_for_the_first_fault()
     ensures new_alias { (whole : ℕ) (c : Configuration) (screen : ℕ) (name : Text) → refusal_of (new_alias whole c screen name) ≡ first (alias_faults whole c name) }
     ensures new_link { (whole : ℕ) (c : Configuration) (from : ℕ) (l : LinkText) → refusal_of (new_link whole c from l) ≡ first (link_faults whole c from l) }
     ensures new_setting { (stands : Scope → Bool) (s : SettingText) → refusal_of (new_setting stands s) ≡ first (setting_faults stands s) }
+    ensures new_hotkey { (whole : ℕ) (c : Configuration) (line : HotkeyForm) → refusal_of (new_hotkey whole c line) ≡ first (hotkey_faults whole c line) }
 {}
 
 /// The faults of a line's words stand by class, and within a class from the left.
@@ -88,4 +94,12 @@ pub fn faults_stand_in_order()
     ensures new_alias { (whole : ℕ) (c : Configuration) (name : Text) → AreInOrder (alias_faults whole c name) }
     ensures new_link { (xs : List ℕ) (whole : ℕ) (c : Configuration) (from : ℕ) (l : LinkText) → SpellsLink xs l → AreInOrder (link_faults whole c from l) }
     ensures new_setting { (xs : List ℕ) (stands : Scope → Bool) (s : SettingText) → SpellsSetting xs s → AreInOrder (setting_faults stands s) }
+    ensures new_hotkey { (xs : List ℕ) (whole : ℕ) (c : Configuration) (line : HotkeyForm) → SpellsHotkey xs line → AreInOrder (hotkey_faults whole c line) }
+{}
+
+/// A hotkey's line is taken exactly where it spells a trigger and actions of known screens that are within the
+/// limits, and then it adds the rule that they mean.
+pub fn hotkeys_mean_what_they_spell()
+    ensures means { (whole : ℕ) (c more : Configuration) (line : HotkeyForm) → new_hotkey whole c line ≡ Ok more → MeansHotkey c line more }
+    ensures taken { (whole : ℕ) (c more : Configuration) (line : HotkeyForm) → MeansHotkey c line more → new_hotkey whole c line ≡ Ok more }
 {}

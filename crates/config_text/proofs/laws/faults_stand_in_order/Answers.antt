@@ -1,4 +1,5 @@
 use Rattle.config_text.proofs.FaultOrder.{known_in_order, screen_in_order, alias_in_order, link_in_order, setting_in_order}
+use Rattle.config_text.proofs.HotkeyFaultOrder.{hotkey_in_order}
 use Rattle.config_text.proofs.laws.faults_stand_in_order.Goals as goal
 
 pub returns : goal.returns
@@ -8,4 +9,5 @@ returns c = record {
   new_alias = alias_in_order;
   new_link = link_in_order;
   new_setting = setting_in_order;
+  new_hotkey = λ xs whole x line h. hotkey_in_order whole x line ?;
 }
