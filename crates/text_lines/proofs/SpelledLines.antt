@@ -1,4 +1,4 @@
--- Lines count for what they are spelled.
+-- A line counts for nothing, for its words or for a byte that is refused exactly where it is spelled so.
 use Rattle.std.proofs.Common.{◌≡◌, ℕ, ◌-◌, ◌<◌, Bool, true, false, not, ◌==◌, List, [], ◌∷◌, ◌++◌, length, take, get_or, Option, Some, None, refl, ap, sym, ◌∙◌, inl, inr, append_assoc, append-nil, length-append, arith}
 use Rattle.std.specs.List.{list_all, position}
 use Rattle.std.proofs.lemmas.Bool.{and_parts, and_from, or_cases, eqb-true, ne_eqb, both_ways, not-true, not-false, not_from_true, not_from_false, false_from_ne_true}
@@ -16,10 +16,11 @@ use Rattle.text_lines.proofs.WholeLines.{trimmed_shorter, trimmed_nothing, trimm
 
 -- ---- kinds of bytes
 
--- it may not stand there, and the same twice over, as the search for the first one says it
+-- it may not stand outside a comment
 abbrev is_bad : ℕ → Bool
 is_bad b = not (is_allowed b)
 
+-- it may, as the bytes before the first bad one are known to
 abbrev is_good : ℕ → Bool
 is_good b = not (is_bad b)
 
