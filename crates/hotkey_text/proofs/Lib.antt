@@ -7,5 +7,6 @@ pub mod LineBytes
 pub mod LinesAgain
 pub mod ListsAgain
 pub mod ModSteps
+pub mod SpelledChordWords
 pub mod SpelledWords
 pub mod WordsFound
