@@ -2,6 +2,7 @@ pub mod ActionLists
 pub mod ActionsAgain
 pub mod ArgumentBytes
 pub mod ChordsAgain
+pub mod FirstFaults
 pub mod KeysAgain
 pub mod LineBytes
 pub mod LinesAgain
@@ -9,4 +10,5 @@ pub mod ListsAgain
 pub mod ModSteps
 pub mod SpelledChordWords
 pub mod SpelledWords
+pub mod WordsAbove
 pub mod WordsFound
