@@ -113,8 +113,8 @@ stands_for_more : (m : Mask) (above : List Text) (word : Text) (c : ModClass) �
 stands_for_more m above word c s n = record {
   small = grown_small m c s.small;
   classes = λ d. grown_has m c d s.small ∙ ap (λ b. b || same_name (class_word d) (class_word c)) (s.classes d)
-    ∙ ap (λ b. list_any (names d) above || b) (same_as (class_word c) word.text (class_word d) n)
-    ∙ sym (or_one (list_any (names d) above) (names d word)) ∙ sym (list_any-append (names d) above (word ∷ []));
+      ∙ ap (λ b. list_any (names d) above || b) (same_as (class_word c) word.text (class_word d) n)
+      ∙ sym (or_one (list_any (names d) above) (names d word)) ∙ sym (list_any-append (names d) above (word ∷ []));
 }
 
 any_alike : (p q : Text → Bool) → ((v : Text) → p v ≡ q v) → (above : List Text) → list_any p above ≡ list_any q above
@@ -124,7 +124,7 @@ any_alike p q h (v ∷ vs) = rw (h v, any_alike p q h vs) refl
 -- where the word names a class, the words above that name it have that name
 named_above : (c : ModClass) (word : Text) (above : List Text) → names c word ≡ true → list_any (names c) above ≡ list_any (λ (v : Text). same_name v.text word.text) above
 named_above c word above n = any_alike (names c) (λ (v : Text). same_name v.text word.text)
-  (λ v. same_name_swapped (class_word c) v.text ∙ same_as (class_word c) word.text v.text n) above
+    (λ v. same_name_swapped (class_word c) v.text ∙ same_as (class_word c) word.text v.text n) above
 
 -- ---- the next word
 
