@@ -29,7 +29,7 @@ use Rattle.hotkey_text.proofs.WordsFound.{class_found}
 
 -- ---- one modifier
 
-abbrev grown : Mask → ModClass → Mask
+abbrev pub grown : Mask → ModClass → Mask
 grown m c = mask (bit_or m.0 (row c).bit)
 
 modifier_again : (m : Mask) (c : ModClass) (left : ℕ) → has_class m c ≡ false → with_modifier m (text_of (class_word c) left) ≡ Ok (grown m c)

@@ -2,10 +2,14 @@ pub mod ActionLists
 pub mod ActionsAgain
 pub mod ArgumentBytes
 pub mod ChordsAgain
+pub mod FaultsFromTheLeft
+pub mod FirstFaults
 pub mod KeysAgain
 pub mod LineBytes
 pub mod LinesAgain
 pub mod ListsAgain
 pub mod ModSteps
+pub mod SpelledChordWords
 pub mod SpelledWords
+pub mod WordsAbove
 pub mod WordsFound

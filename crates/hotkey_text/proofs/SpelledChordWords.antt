@@ -1,0 +1,159 @@
+-- Each text has words of modifiers, a last word and what follows it, in one way alone.
+use Rattle.std.proofs.Common.{◌≡◌, ℕ, zero, suc, ◌<◌, ◌≤◌, Bool, true, false, cond, ◌==◌, List, [], ◌∷◌, ◌++◌, length, length-append, Option, Some, None, refl, ap, sym, subst, ◌∙◌, arith}
+use Rattle.std.proofs.lemmas.Bool.{eqb-true}
+use Rattle.text_lines.specs.declared.bytes.WordKind.TheVariants as word_kind
+use Rattle.text_lines.specs.Bytes.{takes, is_tight, unblanked, front, behind}
+use Rattle.text_lines.specs.Reading.{Text, run_at, maybe_sign_at, begins}
+use Rattle.text_lines.specs.Spelling.{IsGap}
+use Rattle.text_lines.proofs.SpelledWords.{Gap, gap_of, gap_again, Breaks, front_again, behind_again, run_takes}
+use Rattle.hotkey_text.specs.ChordWords.{ChordWords, with_mod, word_or_last, words_within, chord_words, SpellsPart, SpellsParts, SpellsChordWords}
+
+-- ---- a word
+
+abbrev pub chord_run : List ℕ → Text × List ℕ
+chord_run xs = run_at (takes word_kind.Chord) xs
+
+pub part_of : (xs : List ℕ) → SpellsPart xs (chord_run xs).0 (chord_run xs).1
+part_of xs =
+    let r = run_takes (takes word_kind.Chord) xs in
+    record {
+      tail = r.tail;
+      gap = r.gap.gap;
+      text = r.parts;
+      behind = r.gap.parts;
+      run = r.run;
+      whole = λ b bs e. subst (Breaks (takes word_kind.Chord)) e r.breaks;
+      blank = r.gap.blank;
+      tight = r.gap.tight;
+      place = r.place;
+    }
+
+breaks_of : (p : ℕ → Bool) (tail : List ℕ) → ((b : ℕ) (bs : List ℕ) → tail ≡ b ∷ bs → p b ≡ false) → Breaks p tail
+breaks_of p [] h = tt
+breaks_of p (b ∷ bs) h = h b bs refl
+
+abbrev text_at : List ℕ → ℕ → Text
+text_at word left = record { text = word; left = left }
+
+abbrev text_before : List ℕ → ℕ → List ℕ → Text × List ℕ
+text_before word left rest = (text_at word left, rest)
+
+pub part_again : (xs : List ℕ) (word : Text) (rest : List ℕ) → SpellsPart xs word rest → chord_run xs ≡ (word, rest)
+part_again xs word rest h =
+    let p = takes word_kind.Chord in
+    let breaks = breaks_of p h.tail h.whole in
+    let taken : front p xs ≡ word.text = ap (front p) h.text ∙ front_again p word.text h.tail h.run breaks in
+    let left : behind p xs ≡ h.tail = ap (behind p) h.text ∙ behind_again p word.text h.tail h.run breaks in
+    let rest_of : unblanked (behind p xs) ≡ rest = ap unblanked left ∙ ap unblanked h.behind ∙ gap_again h.gap rest h.blank h.tight in
+    ap (λ (w : List ℕ). text_before w (length xs) (unblanked (behind p xs))) taken
+    ∙ ap (λ (n : ℕ). text_before word.text n (unblanked (behind p xs))) (sym h.place)
+    ∙ ap (λ (r : List ℕ). text_before word.text word.left r) rest_of
+
+-- ---- a + behind it, or none
+
+pub record Plus (xs rest : List ℕ) : Type 0 where
+  pub gap : List ℕ
+  pub parts : xs ≡ 43 ∷ (gap ++ rest)
+  pub blank : IsGap gap
+  pub tight : is_tight rest ≡ true
+
+plus_by : (t : Bool) (b : ℕ) (bs rest : List ℕ) → (b == 43) ≡ t → cond t (Some (unblanked bs)) None ≡ Some rest → Plus (b ∷ bs) rest
+plus_by true b bs rest e h =
+    let same : unblanked bs ≡ rest = cc in
+    let g = subst (λ (r : List ℕ). Gap bs r) same (gap_of bs) in
+    record { gap = g.gap; parts = ap (λ n. n ∷ bs) (eqb-true b 43 e) ∙ ap (λ (t : List ℕ). 43 ∷ t) g.parts; blank = g.blank; tight = g.tight }
+plus_by false b bs rest e h = absurd cc
+
+pub plus_there : (xs rest : List ℕ) → maybe_sign_at 43 xs ≡ Some rest → Plus xs rest
+unfolding maybe_sign_at
+plus_there [] rest h = absurd cc
+plus_there (b ∷ bs) rest h = plus_by (b == 43) b bs rest refl h
+
+pub plus_again : (gap rest : List ℕ) → IsGap gap → is_tight rest ≡ true → maybe_sign_at 43 (43 ∷ (gap ++ rest)) ≡ Some rest
+unfolding maybe_sign_at
+plus_again gap rest h t = ap Some (gap_again gap rest h t)
+
+none_by : (t : Bool) (bs : List ℕ) → cond t (Some bs) None ≡ None → t ≡ false
+none_by true bs h = absurd cc
+none_by false bs h = refl
+
+pub no_plus : (xs : List ℕ) → maybe_sign_at 43 xs ≡ None → begins 43 xs ≡ false
+unfolding maybe_sign_at
+no_plus [] h = refl
+no_plus (b ∷ bs) h = none_by (b == 43) (unblanked bs) h
+
+pub none_again : (xs : List ℕ) → begins 43 xs ≡ false → maybe_sign_at 43 xs ≡ None
+unfolding maybe_sign_at
+none_again [] h = refl
+none_again (b ∷ bs) h = rw h refl
+
+-- a word with a + behind it is longer than what follows them
+pub plus_shorter : (xs : List ℕ) (word : Text) (gap rest : List ℕ) → SpellsPart xs word (43 ∷ (gap ++ rest)) → length rest < length xs
+plus_shorter xs word gap rest h =
+    omega (
+      arith,
+      ap length h.text,
+      length-append word.text h.tail,
+      ap length h.behind,
+      length-append h.gap (43 ∷ (gap ++ rest)),
+      length-append gap rest,
+    )
+
+-- ---- all words
+
+abbrev AreSpelled : ℕ → Type 0
+AreSpelled n = (xs : List ℕ) → length xs ≤ n → SpellsChordWords xs (words_within n xs)
+
+spelled_then : (n : ℕ) (xs : List ℕ) (o : Option (List ℕ)) → AreSpelled n → length xs ≤ suc n → maybe_sign_at 43 (chord_run xs).1 ≡ o
+    → SpellsChordWords xs (word_or_last (words_within n) (chord_run xs) o)
+spelled_then n xs None again h e = record { here = xs; mods = refl; last = part_of xs; none = no_plus (chord_run xs).1 e }
+spelled_then n xs (Some rest) again h e =
+    let plus = plus_there (chord_run xs).1 rest e in
+    let part = subst (λ (r : List ℕ). SpellsPart xs (chord_run xs).0 r) plus.parts (part_of xs) in
+    let shorter = plus_shorter xs (chord_run xs).0 plus.gap rest part in
+    let others = again rest (omega arith) in
+    record {
+      here = others.here;
+      mods = record { behind_sign = plus.gap; rest = rest; part = part; gap = plus.blank; tight = plus.tight; others = others.mods };
+      last = others.last;
+      none = others.none;
+    }
+
+spelled_within : (n : ℕ) → AreSpelled n
+unfolding words_within
+spelled_within zero [] h = record { here = []; mods = refl; last = part_of []; none = refl }
+spelled_within zero (x ∷ xs) h = absurd (omega arith)
+spelled_within (suc n) xs h = spelled_then n xs (maybe_sign_at 43 (chord_run xs).1) (spelled_within n) h refl
+
+pub chord_words_spelled : (xs : List ℕ) → SpellsChordWords xs (chord_words xs)
+chord_words_spelled xs = spelled_within (length xs) xs (omega arith)
+
+-- ---- in one way alone
+
+abbrev chord_of : List Text → Text → List ℕ → ChordWords
+chord_of mods last rest = record { mods = mods; last = last; rest = rest }
+
+last_within : (n : ℕ) (xs : List ℕ) (last : Text) (rest : List ℕ) → SpellsPart xs last rest → begins 43 rest ≡ false → words_within n xs ≡ chord_of [] last rest
+unfolding words_within
+last_within zero xs last rest h e = ap (λ (p : Text × List ℕ). chord_of [] p.0 p.1) (part_again xs last rest h)
+last_within (suc n) xs last rest h e =
+    ap (λ (p : Text × List ℕ). word_or_last (words_within n) p (maybe_sign_at 43 p.1)) (part_again xs last rest h)
+    ∙ ap (word_or_last (words_within n) (last, rest)) (none_again rest e)
+
+more_within : (n : ℕ) (xs : List ℕ) (word : Text) (gap rest : List ℕ) → SpellsPart xs word (43 ∷ (gap ++ rest)) → IsGap gap → is_tight rest ≡ true
+    → words_within (suc n) xs ≡ with_mod word (words_within n rest)
+unfolding words_within
+more_within n xs word gap rest h g t =
+    ap (λ (p : Text × List ℕ). word_or_last (words_within n) p (maybe_sign_at 43 p.1)) (part_again xs word (43 ∷ (gap ++ rest)) h)
+    ∙ ap (word_or_last (words_within n) (word, 43 ∷ (gap ++ rest))) (plus_again gap rest g t)
+
+parts_within : (n : ℕ) (xs : List ℕ) (words : List Text) (last : Text) (here rest : List ℕ) → length xs ≤ n → SpellsParts xs words here → SpellsPart here last rest
+    → begins 43 rest ≡ false → words_within n xs ≡ chord_of words last rest
+parts_within n xs [] last here rest h s l e = ap (words_within n) s ∙ last_within n here last rest l e
+parts_within zero xs (word ∷ words) last here rest h s l e = absurd (omega (arith, plus_shorter xs word s.behind_sign s.rest s.part))
+parts_within (suc n) xs (word ∷ words) last here rest h s l e =
+    let shorter = plus_shorter xs word s.behind_sign s.rest s.part in
+    more_within n xs word s.behind_sign s.rest s.part s.gap s.tight ∙ ap (with_mod word) (parts_within n s.rest words last here rest (omega arith) s.others l e)
+
+pub chord_words_again : (xs : List ℕ) (words : ChordWords) → SpellsChordWords xs words → chord_words xs ≡ words
+chord_words_again xs words h = parts_within (length xs) xs words.mods words.last h.here words.rest (omega arith) h.mods h.last h.none
