@@ -12,6 +12,7 @@ use Rattle.hotkey_text.specs.declared.faults.HotkeyKind.TheVariants as word_kind
 use Rattle.hotkey_text.specs.Shapes.{ActionForm, HotkeyForm}
 use Rattle.hotkey_text.specs.Arguments as words
 use Rattle.hotkey_text.specs.FaultLists as all
+use Rattle.hotkey_text.proofs.FirstFaults.{first_of_trigger, first_of_action}
 use Rattle.config_text.specs.declared.faults.ConfigKind.TheVariants as kind
 use Rattle.config_text.specs.declared.faults.Fault.{Fault}
 use Rattle.config_text.specs.Configurations.{Configuration, screen_of, with_hotkey}
@@ -74,31 +75,25 @@ meant_first c (words.Lock mode) = refl
 meant_first c (words.SwitchTo s) = screen_first (screen_of c s.word.text) s.further s.word.left
 meant_first c (words.SwitchToward side) = refl
 
--- ---- actions and the line, by what is known of their words
-
-abbrev pub TriggerFirst : Type 0
-TriggerFirst = (line : HotkeyForm) → all.refusal_of (words.trigger_of line) ≡ all.first (all.trigger_faults line)
-
-abbrev pub ActionFirst : Type 0
-ActionFirst = (known : List ℕ → Bool) (form : ActionForm) → all.refusal_among known (words.action_of form) ≡ all.first (all.action_faults known form)
+-- ---- actions and the line
 
 words_first : (c : Configuration) (r : Result words.ActionText HotkeyFault) (fs : List HotkeyFault) → all.refusal_among (known_among c) r ≡ all.first fs
     → refusal_of (judged_words r >>= λ text. meant c text) ≡ first (map line_fault fs)
 words_first c (Ok text) fs e = meant_first c text ∙ first_mapped (all.faults_left (known_among c) text) fs e
 words_first c (Err f) fs e = refused_first f fs e
 
-action_first : ActionFirst → (c : Configuration) (form : ActionForm) → refusal_of (action_of c form) ≡ first (map line_fault (all.action_faults (known_among c) form))
+action_first : (c : Configuration) (form : ActionForm) → refusal_of (action_of c form) ≡ first (map line_fault (all.action_faults (known_among c) form))
 unfolding action_of
-action_first law c form = words_first c (words.action_of form) (all.action_faults (known_among c) form) (law (known_among c) form)
+action_first c form = words_first c (words.action_of form) (all.action_faults (known_among c) form) (first_of_action (known_among c) form)
 
-actions_first : ActionFirst → (c : Configuration) (forms : List ActionForm) → refusal_of (actions_of c forms) ≡ first (map line_fault (flat_map (all.action_faults (known_among c)) forms))
+actions_first : (c : Configuration) (forms : List ActionForm) → refusal_of (actions_of c forms) ≡ first (map line_fault (flat_map (all.action_faults (known_among c)) forms))
 unfolding actions_of
-actions_first law c [] = refl
-actions_first law c (form ∷ forms) =
+actions_first c [] = refl
+actions_first c (form ∷ forms) =
     let here = all.action_faults (known_among c) form in
     let others = flat_map (all.action_faults (known_among c)) forms in
-    both_parts (action_of c form) _ (map line_fault here) (map line_fault others) (action_first law c form)
-    (λ a e. then_ok (actions_of c forms) (λ (rest : List Action). a ∷ rest) ∙ actions_first law c forms)
+    both_parts (action_of c form) _ (map line_fault here) (map line_fault others) (action_first c form)
+    (λ a e. then_ok (actions_of c forms) (λ (rest : List Action). a ∷ rest) ∙ actions_first c forms)
     ∙ ap first (sym (map-append line_fault here others))
 
 room_first : (b : Bool) (whole : ℕ) (more : Configuration) → refusal_of (unless b kind.TooMany whole >>= λ _. let a : Result Configuration Fault = Ok more in a) ≡ first (fault_unless b kind.TooMany whole)
@@ -111,15 +106,15 @@ parts_mapped a b c d =
     ∙ append_assoc (map line_fault a) (map line_fault b ++ map line_fault c) d
     ∙ ap (λ (l : List Fault). map line_fault a ++ l) (append_assoc (map line_fault b) (map line_fault c) d)
 
-pub first_of_hotkey : TriggerFirst → ActionFirst → (whole : ℕ) (c : Configuration) (line : HotkeyForm) → refusal_of (new_hotkey whole c line) ≡ first (hotkey_faults whole c line)
+pub first_of_hotkey : (whole : ℕ) (c : Configuration) (line : HotkeyForm) → refusal_of (new_hotkey whole c line) ≡ first (hotkey_faults whole c line)
 unfolding new_hotkey hotkey_faults all.line_faults
-first_of_hotkey triggers actions whole c line =
+first_of_hotkey whole c line =
     let known = all.action_faults (known_among c) in
     let limit = limit_faults whole c (actions_of c line.press) (actions_of c line.release) in
     both_parts (judged_words (words.trigger_of line)) _ (map line_fault (all.trigger_faults line)) (map line_fault (flat_map known line.press) ++ (map line_fault (flat_map known line.release) ++ limit))
-    (judged_first (words.trigger_of line) (all.trigger_faults line) (triggers line))
-    (λ t _. both_parts (actions_of c line.press) _ (map line_fault (flat_map known line.press)) (map line_fault (flat_map known line.release) ++ limit) (actions_first actions c line.press)
-    (λ press p. both_parts (actions_of c line.release) _ (map line_fault (flat_map known line.release)) limit (actions_first actions c line.release)
+    (judged_first (words.trigger_of line) (all.trigger_faults line) (first_of_trigger line))
+    (λ t _. both_parts (actions_of c line.press) _ (map line_fault (flat_map known line.press)) (map line_fault (flat_map known line.release) ++ limit) (actions_first c line.press)
+    (λ press p. both_parts (actions_of c line.release) _ (map line_fault (flat_map known line.release)) limit (actions_first c line.release)
     (λ release r. room_first (has_room c.hotkeys (press ++ release)) whole (with_hotkey c (next_rule c.hotkeys t press release))
     ∙ ap first (sym (ap (λ (x : Result (List Action) Fault). limit_faults whole c x (actions_of c line.release)) p ∙ ap (λ (x : Result (List Action) Fault). limit_faults whole c (Ok press) x) r)))))
     ∙ ap first (sym (parts_mapped (all.trigger_faults line) (flat_map known line.press) (flat_map known line.release) limit))

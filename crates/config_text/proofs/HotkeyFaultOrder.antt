@@ -6,7 +6,9 @@ use Rattle.hotkey_text.specs.declared.faults.HotkeyFault.{HotkeyFault}
 use Rattle.hotkey_text.specs.declared.faults.HotkeyKind.{HotkeyKind}
 use Rattle.hotkey_text.specs.declared.faults.HotkeyKind.TheVariants as word_kind
 use Rattle.hotkey_text.specs.Shapes.{HotkeyForm}
+use Rattle.hotkey_text.specs.Spelling.{SpellsHotkey}
 use Rattle.hotkey_text.specs.FaultLists.{line_faults, StandBehind, StandFromTheLeft}
+use Rattle.hotkey_text.proofs.FaultsFromTheLeft.{line_from_left}
 use Rattle.config_text.specs.declared.faults.ConfigKind.TheVariants as kind
 use Rattle.config_text.specs.declared.faults.Fault.{Fault}
 use Rattle.config_text.specs.Configurations.{Configuration, screen_of}
@@ -43,6 +45,8 @@ limit_in_order fs whole c (Ok press) (Err f) h = all_in_order fs true whole h
 limit_in_order fs whole c (Err f) (Ok release) h = all_in_order fs true whole h
 limit_in_order fs whole c (Err f) (Err g) h = all_in_order fs true whole h
 
-pub hotkey_in_order : (whole : ℕ) (c : Configuration) (line : HotkeyForm) → StandFromTheLeft (line_faults (λ word. is_some (screen_of c word)) line) → AreInOrder (hotkey_faults whole c line)
+pub hotkey_in_order : (xs : List ℕ) (whole : ℕ) (c : Configuration) (line : HotkeyForm) → SpellsHotkey xs line → AreInOrder (hotkey_faults whole c line)
 unfolding hotkey_faults
-hotkey_in_order whole c line h = limit_in_order (line_faults (λ word. is_some (screen_of c word)) line) whole c (actions_of c line.press) (actions_of c line.release) h
+hotkey_in_order xs whole c line h =
+    let known = λ (word : List ℕ). is_some (screen_of c word) in
+    limit_in_order (line_faults known line) whole c (actions_of c line.press) (actions_of c line.release) (line_from_left known xs line h)

@@ -1,5 +1,5 @@
 -- The words of MODS+KEY and of MODS+NUMBER, good or not. Each list of bytes here is the line from there on.
-use Rattle.std.specs.Prelude.{◌≡◌, ℕ, zero, suc, Bool, true, false, List, [], ◌∷◌, ◌++◌, length, Option, Some, None}
+use Rattle.std.specs.Prelude.{◌≡◌, ℕ, zero, suc, true, false, List, [], ◌∷◌, ◌++◌, length, Option, Some, None}
 use Rattle.text_lines.specs.declared.bytes.WordKind.TheVariants as word_kind
 use Rattle.text_lines.specs.Bytes.{takes, is_tight}
 use Rattle.text_lines.specs.Reading.{Text, run_at, maybe_sign_at, begins}

@@ -9,5 +9,5 @@ returns c = record {
   new_alias = alias_in_order;
   new_link = link_in_order;
   new_setting = setting_in_order;
-  new_hotkey = λ xs whole x line h. hotkey_in_order whole x line ?;
+  new_hotkey = hotkey_in_order;
 }

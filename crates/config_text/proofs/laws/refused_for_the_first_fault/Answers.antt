@@ -9,5 +9,5 @@ returns c = record {
   new_alias = first_of_alias;
   new_link = first_of_link;
   new_setting = first_of_setting;
-  new_hotkey = first_of_hotkey ? ?;
+  new_hotkey = first_of_hotkey;
 }
