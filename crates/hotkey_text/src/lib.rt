@@ -7,7 +7,9 @@
 //! It owns the form of the line (`specs/Shapes.antt`), the words of actions (`specs/Names.antt`), keys
 //! (`specs/Keys.antt`), modifiers and what stands behind them (`specs/Chords.antt`), arguments
 //! (`specs/Arguments.antt`), the printed form (`specs/Printed.antt`) and what is read of it again
-//! (`specs/Again.antt`). It may know no other line of a configuration, and no screen: it hands a screen's
+//! (`specs/Again.antt`). The same lines and arguments in words, gaps and signs, without an order of steps, are
+//! `specs/Spelling.antt` and `specs/SpellingWords.antt`; all faults of a line's words are
+//! `specs/FaultLists.antt`. It may know no other line of a configuration, and no screen: it hands a screen's
 //! word on.
 #![tactic(auto)]
 
