@@ -2,6 +2,8 @@ pub mod ActionLists
 pub mod ActionsAgain
 pub mod ArgumentBytes
 pub mod ChordsAgain
+pub mod EnoughTurns
+pub mod FreeClasses
 pub mod KeysAgain
 pub mod LineBytes
 pub mod LinesAgain
