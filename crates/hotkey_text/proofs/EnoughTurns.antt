@@ -6,15 +6,9 @@ use Rattle.text_lines.specs.declared.bytes.WordKind.TheVariants as word_kind
 use Rattle.text_lines.specs.Bytes.{takes}
 use Rattle.text_lines.specs.Reading.{◌>>=◌, Text, run_at, maybe_sign_at}
 use Rattle.hotkey_text.specs.declared.faults.HotkeyFault.{HotkeyFault}
-use Rattle.hotkey_text.specs.declared.faults.HotkeyKind.{HotkeyKind}
-use Rattle.hotkey_text.specs.Faults.{or_fault}
 use Rattle.hotkey_text.specs.Chords.{class_named, has_class, with_class, with_modifier, or_last_word, mods_within}
+use Rattle.hotkey_text.proofs.WordSteps.{fault_there}
 use Rattle.hotkey_text.proofs.FreeClasses.{with_bit, free, grown_small, new_takes_one}
-
--- what is there of a name, with no fault
-pub fault_there : {A : Type 0} (o : Option A) (k : HotkeyKind) (left : ℕ) (a : A) → or_fault o k left ≡ Ok a → o ≡ Some a
-fault_there (Some x) k left a e = cc
-fault_there None k left a e = absurd cc
 
 -- the class of a word's name, which the mask doesn't have
 pub record NewClass (m : Mask) (word : List ℕ) (next : Mask) : Type 0 where
@@ -41,7 +35,8 @@ same_behind : {A B E : Type 0} (r : Result A E) (f g : A → Result B E) → ((x
 same_behind (Ok x) f g h = h x refl
 same_behind (Err e) f g h = refl
 
-abbrev Turn : Type 0
+-- what goes on behind a sign
+abbrev pub Turn : Type 0
 Turn = Mask → List ℕ → Result (Mask × List ℕ) HotkeyFault
 
 same_turn : (f g : Turn) (m : Mask) (here : List ℕ) (word : Text) (o : Option (List ℕ)) → ((next : Mask) (rest : List ℕ) → with_modifier m word ≡ Ok next → f next rest ≡ g next rest)
@@ -49,8 +44,8 @@ same_turn : (f g : Turn) (m : Mask) (here : List ℕ) (word : Text) (o : Option 
 same_turn f g m here word None h = refl
 same_turn f g m here word (Some rest) h = same_behind (with_modifier m word) (λ next. f next rest) (λ next. g next rest) (λ next e. h next rest e)
 
-fewer : (m : Mask) (word : Text) (next : Mask) → m.0 < 32 → with_modifier m word ≡ Ok next → (next.0 < 32) × (free m ≡ suc (free next))
-fewer m word next h e =
+pub next_fewer : (m : Mask) (word : Text) (next : Mask) → m.0 < 32 → with_modifier m word ≡ Ok next → (next.0 < 32) × (free m ≡ suc (free next))
+next_fewer m word next h e =
     let c = new_class m word next e in
     let small : next.0 < 32 = subst (λ (k : Mask). k.0 < 32) c.grown (grown_small m c.class h) in
     (small, new_takes_one m c.class h c.new ∙ ap (λ (k : Mask). suc (free k)) c.grown)
@@ -62,5 +57,5 @@ turns_agree (suc n) zero m xs h e f = absurd (omega arith)
 turns_agree (suc n) (suc k) m xs h e f =
     let word = run_at (takes word_kind.Chord) xs in
     same_turn (mods_within n) (mods_within k) m xs word.0 (maybe_sign_at 43 word.1) (λ next rest went_on.
-    let less = fewer m word.0 next h went_on in
+    let less = next_fewer m word.0 next h went_on in
     turns_agree n k next rest less.0 (omega arith) (omega arith))

@@ -9,5 +9,9 @@ pub mod LineBytes
 pub mod LinesAgain
 pub mod ListsAgain
 pub mod ModSteps
+pub mod SpelledChords
+pub mod SpelledMods
+pub mod SpelledTriggers
 pub mod SpelledWords
+pub mod WordSteps
 pub mod WordsFound

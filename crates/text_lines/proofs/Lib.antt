@@ -1,5 +1,6 @@
 pub mod CleanWords
 pub mod Cuts
+pub mod DecimalsSpelled
 pub mod NoNumbers
 pub mod NumbersAgain
 pub mod SpelledLiterals
