@@ -9,6 +9,8 @@ pub mod LineBytes
 pub mod LinesAgain
 pub mod ListsAgain
 pub mod ModSteps
+pub mod SpelledActions
+pub mod SpelledArguments
 pub mod SpelledChords
 pub mod SpelledMods
 pub mod SpelledTriggers

@@ -1,12 +1,16 @@
 -- One word of a hotkey's line, with the gap behind it: what a run of bytes takes, and how a chain of readers is taken apart.
 use Rattle.std.proofs.Common.{◌≡◌, ℕ, Bool, true, false, cond, ◌==◌, List, [], ◌∷◌, ◌++◌, length, Option, Some, None, Result, Ok, Err, refl, ap, sym, subst, ◌∙◌}
+use Rattle.std.specs.List.{find}
+use Rattle.std.specs.Str.{bytes_eq}
 use Rattle.std.proofs.lemmas.Bool.{eqb-true, eq-eqb}
+use Rattle.std.proofs.lemmas.Slice.Eq.{bytes_eq-Decides}
 use Rattle.text_lines.specs.declared.bytes.WordKind.{WordKind}
 use Rattle.text_lines.specs.Bytes.{takes, behind, is_tight, unblanked}
 use Rattle.text_lines.specs.Reading.{run_at, maybe_sign_at, begins}
 use Rattle.text_lines.specs.Spelling.{IsRun, IsGap}
 use Rattle.text_lines.proofs.SpelledWords.{Gap, Sign, Breaks, has_no_blank, run_takes, gap_of, gap_again, gap_breaks, front_again, behind_again}
 use Rattle.text_lines.proofs.WordsAgain.{text_of}
+use Rattle.hotkey_rules.proofs.FirstFound.{found_listed}
 use Rattle.hotkey_text.specs.declared.faults.HotkeyFault.{HotkeyFault}
 use Rattle.hotkey_text.specs.declared.faults.HotkeyKind.{HotkeyKind}
 use Rattle.hotkey_text.specs.Faults.{unless, or_fault}
@@ -76,3 +80,7 @@ word_read k s xs word rest w run breaks tight =
     ∙ ap (λ (t : List ℕ). (text_of word (length (word ++ tail)), unblanked t)) (behind_again (takes k) word tail run breaks_all)
     ∙ ap (λ (t : List ℕ). (text_of word (length (word ++ tail)), t)) (gap_again w.behind_word rest w.gap tight)
     ∙ ap (λ (t : List ℕ). (text_of word (length t), rest)) (sym w.text)
+
+-- the word of a table that was found
+pub table_word : {A : Type 0} (text : A → List ℕ) (all : List A) (word : List ℕ) (x : A) → find (λ y. bytes_eq (text y) word) all ≡ Some x → word ≡ text x
+table_word text all word x h = sym ((bytes_eq-Decides (text x) word).0 (found_listed (λ y. bytes_eq (text y) word) all x h).1)
