@@ -1,8 +1,11 @@
 pub mod CleanWords
 pub mod Cuts
 pub mod DecimalsSpelled
+pub mod FirstPlaces
+pub mod LineParts
 pub mod NoNumbers
 pub mod NumbersAgain
+pub mod SpelledLines
 pub mod SpelledLiterals
 pub mod SpelledNumbers
 pub mod SpelledWords

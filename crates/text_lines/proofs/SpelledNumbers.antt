@@ -2,24 +2,14 @@
 use Rattle.std.proofs.Common.{◌≡◌, ℕ, ◌+◌, ◌-◌, ◌*◌, ◌/◌, ◌%◌, ◌<◌, ◌≤◌, Bool, true, false, cond, ◌==◌, List, [], ◌∷◌, ◌++◌, length, Ok, Err, refl, ap, sym, subst, ◌∙◌, inl, inr, append_assoc, append-nil, length-append, arith}
 use Rattle.std.specs.Fmt.{decimal}
 use Rattle.std.specs.Char.{is_ascii_digit}
-use Rattle.std.proofs.lemmas.Fmt.{decimal_step, decimal_digit}
+use Rattle.std.proofs.lemmas.Fmt.{decimal_digit}
 use Rattle.std.proofs.lemmas.Bool.{or_cases, eqb-true, eqb-false, ne_eqb, cases_lt}
-use Rattle.std.proofs.lemmas.Bool.Decides.{nat_tests}
 use Rattle.text_lines.specs.Bytes.{is_blank, is_tight, unblanked}
 use Rattle.text_lines.specs.Reading.{Read, further, number_at}
 use Rattle.text_lines.specs.Spelling.{SpellsNumber}
 use Rattle.text_lines.proofs.NumbersAgain.{digit_is, two_digits, three_digits, is_undigited, number_again as decimal_number_again}
+use Rattle.text_lines.proofs.DecimalsSpelled.{digit_range, decimal_more}
 use Rattle.text_lines.proofs.SpelledWords.{Gap, gap_of, Breaks}
-
-digit_range : (b : ℕ) → is_ascii_digit b ≡ true → (48 ≤ b) × (b ≤ 57)
-digit_range b h = grind (arith, nat_tests)
-
-decimal_more : (n d : ℕ) → 0 < n → n < 100 → d < 10 → decimal (10 * n + d) ≡ decimal n ++ (48 + d) ∷ []
-decimal_more n d low high small =
-    let front : (10 * n + d) / 10 ≡ n = omega arith in
-    let last : (10 * n + d) % 10 ≡ d = omega arith in
-    decimal_step (10 * n + d) (omega arith) (omega arith) ∙ ap (λ (k : ℕ). decimal k ++ (48 + (10 * n + d) % 10) ∷ []) front
-    ∙ ap (λ (k : ℕ). decimal n ++ (48 + k) ∷ []) last
 
 further_breaks : (n : ℕ) (tail : List ℕ) → Breaks is_ascii_digit tail → further (n, tail) ≡ (n, tail)
 further_breaks n [] h = refl
@@ -59,7 +49,7 @@ grown_then true n b bs e low high =
     record {
       more = b ∷ [];
       parts = refl;
-      digits = decimal_more n (b - 48) low high (omega (arith, d.0, d.1)) ∙ ap (λ (k : ℕ). decimal n ++ k ∷ []) same;
+      digits = decimal_more n (b - 48) low (omega (arith, d.0, d.1)) (omega (arith, d.0, d.1)) ∙ ap (λ (k : ℕ). decimal n ++ k ∷ []) same;
       low = omega arith;
       high = omega (arith, d.1);
       again = λ front c t u k. rw e refl;

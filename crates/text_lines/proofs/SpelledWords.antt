@@ -161,7 +161,7 @@ pub word_tight : (k : WordKind) → has_no_blank k ≡ true → (w rest : List �
 word_tight k s [] rest h = absurd (omega (arith, h.0))
 word_tight k s (b ∷ bs) rest h = solid_by (is_blank b) k b s refl (and_parts (takes k b) (list_all (takes k) bs) h.1).0
 
-run_len : (p : ℕ → Bool) (w rest : List ℕ) → IsRun p w → Breaks p rest → prefix_len p (w ++ rest) ≡ length w
+pub run_len : (p : ℕ → Bool) (w rest : List ℕ) → IsRun p w → Breaks p rest → prefix_len p (w ++ rest) ≡ length w
 run_len p [] [] h k = refl
 run_len p [] (b ∷ bs) h k = rw k refl
 run_len p (x ∷ xs) rest h k =

@@ -10,7 +10,7 @@ unfolding trimmed
 twice_by true b bs e rest = refl
 twice_by false b bs e rest = rw (rest, e) refl
 
-trimmed_twice : (xs : List ℕ) → trimmed (trimmed xs) ≡ trimmed xs
+pub trimmed_twice : (xs : List ℕ) → trimmed (trimmed xs) ≡ trimmed xs
 unfolding trimmed
 trimmed_twice [] = refl
 trimmed_twice (b ∷ bs) = twice_by (is_blank b && is_empty (trimmed bs)) b bs refl (trimmed_twice bs)
@@ -27,7 +27,7 @@ behind_by : (t : Bool) (b : ℕ) (bs : List ℕ) → trimmed (b ∷ bs) ≡ b �
 behind_by true b bs h rest = rest (trimmed_rest b bs h)
 behind_by false b bs h rest = h
 
-trimmed_unblanked : (xs : List ℕ) → trimmed xs ≡ xs → trimmed (unblanked xs) ≡ unblanked xs
+pub trimmed_unblanked : (xs : List ℕ) → trimmed xs ≡ xs → trimmed (unblanked xs) ≡ unblanked xs
 trimmed_unblanked [] h = h
 trimmed_unblanked (b ∷ bs) h = behind_by (is_blank b) b bs h (trimmed_unblanked bs)
 
@@ -51,7 +51,7 @@ shorter_by : (t : Bool) (b : ℕ) (bs : List ℕ) → length (trimmed bs) ≤ le
 shorter_by true b bs h = omega arith
 shorter_by false b bs h = omega arith
 
-trimmed_shorter : (xs : List ℕ) → length (trimmed xs) ≤ length xs
+pub trimmed_shorter : (xs : List ℕ) → length (trimmed xs) ≤ length xs
 unfolding trimmed
 trimmed_shorter [] = omega arith
 trimmed_shorter (b ∷ bs) = shorter_by (is_blank b && is_empty (trimmed bs)) b bs (trimmed_shorter bs)
@@ -61,12 +61,12 @@ unfolding trimmed
 blank_by true b bs e h rest = rw (e, rest h) refl
 blank_by false b bs e h rest = absurd cc
 
-trimmed_nothing : (bs : List ℕ) → unblanked bs ≡ [] → trimmed bs ≡ []
+pub trimmed_nothing : (bs : List ℕ) → unblanked bs ≡ [] → trimmed bs ≡ []
 unfolding trimmed
 trimmed_nothing [] h = refl
 trimmed_nothing (b ∷ bs) h = blank_by (is_blank b) b bs refl h (trimmed_nothing bs)
 
-trimmed_blanks : (xs bs : List ℕ) → unblanked bs ≡ [] → trimmed (xs ++ bs) ≡ trimmed xs
+pub trimmed_blanks : (xs bs : List ℕ) → unblanked bs ≡ [] → trimmed (xs ++ bs) ≡ trimmed xs
 unfolding trimmed
 trimmed_blanks [] bs h = trimmed_nothing bs h
 trimmed_blanks (x ∷ xs) bs h = rw (trimmed_blanks xs bs h) refl

@@ -5,4 +5,5 @@ pub mod Numbers
 pub mod Reading
 pub mod Seen
 pub mod Spelling
+pub mod SpellingLines
 pub mod Words

@@ -11,6 +11,7 @@
 
 mod bytes;
 mod decimal_text;
+mod laws;
 mod lines;
 #[cfg(test)]
 mod tests;
@@ -18,5 +19,6 @@ mod word_reading;
 
 pub use bytes::{WordKind, unblanked, word_len};
 pub use decimal_text::decimal;
+pub use laws::{lines_are_spelled, numbers_are_spelled};
 pub use lines::{TextLine, cut_line, text_line};
 pub use word_reading::{Word, begins, end, literal, maybe_sign, number, run, sign, whole_word};
