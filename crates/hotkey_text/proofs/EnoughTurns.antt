@@ -7,7 +7,7 @@ use Rattle.text_lines.specs.Bytes.{takes}
 use Rattle.text_lines.specs.Reading.{◌>>=◌, Text, run_at, maybe_sign_at}
 use Rattle.hotkey_text.specs.declared.faults.HotkeyFault.{HotkeyFault}
 use Rattle.hotkey_text.specs.Chords.{class_named, has_class, with_class, with_modifier, or_last_word, mods_within}
-use Rattle.hotkey_text.proofs.WordSteps.{fault_there}
+use Rattle.hotkey_text.proofs.SpelledWords.{there}
 use Rattle.hotkey_text.proofs.FreeClasses.{with_bit, free, grown_small, new_takes_one}
 
 -- the class of a word's name, which the mask doesn't have
@@ -27,7 +27,7 @@ class_of m word (Some c) next e h = class_by (has_class m c) m word c next refl 
 
 pub new_class : (m : Mask) (word : Text) (next : Mask) → with_modifier m word ≡ Ok next → NewClass m word.text next
 unfolding with_modifier
-new_class m word next h = class_of m word.text (class_named word.text) next refl (fault_there _ _ _ next h)
+new_class m word next h = class_of m word.text (class_named word.text) next refl (there _ _ _ next h)
 
 -- ---- turns
 
@@ -44,12 +44,14 @@ same_turn : (f g : Turn) (m : Mask) (here : List ℕ) (word : Text) (o : Option 
 same_turn f g m here word None h = refl
 same_turn f g m here word (Some rest) h = same_behind (with_modifier m word) (λ next. f next rest) (λ next. g next rest) (λ next e. h next rest e)
 
+-- one modifier more leaves one free class less
 pub next_fewer : (m : Mask) (word : Text) (next : Mask) → m.0 < 32 → with_modifier m word ≡ Ok next → (next.0 < 32) × (free m ≡ suc (free next))
 next_fewer m word next h e =
     let c = new_class m word next e in
     let small : next.0 < 32 = subst (λ (k : Mask). k.0 < 32) c.grown (grown_small m c.class h) in
     (small, new_takes_one m c.class h c.new ∙ ap (λ (k : Mask). suc (free k)) c.grown)
 
+-- as many turns as there are free classes, and one more
 pub turns_agree : (n k : ℕ) (m : Mask) (xs : List ℕ) → m.0 < 32 → free m < n → free m < k → mods_within n m xs ≡ mods_within k m xs
 unfolding mods_within
 turns_agree zero k m xs h e f = absurd (omega arith)

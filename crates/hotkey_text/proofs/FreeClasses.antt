@@ -1,5 +1,5 @@
 -- A mask with the bit of one class more, and the classes that a mask doesn't have.
-use Rattle.std.proofs.Common.{◌≡◌, ◌≢◌, ℕ, suc, ◌+◌, ◌^◌, ◌<◌, Bool, true, false, not, ◌||◌, ◌==◌, List, [], ◌∷◌, refl, ap, sym, ◌∙◌, arith}
+use Rattle.std.proofs.Common.{◌≡◌, ◌≢◌, ℕ, suc, ◌+◌, ◌<◌, Bool, true, false, not, ◌||◌, ◌==◌, List, [], ◌∷◌, refl, ap, sym, ◌∙◌}
 use Rattle.std.specs.Prelude.{bit_and, bit_or}
 use Rattle.std.proofs.lemmas.Nat.{or_lt, and_or_apart}
 use Rattle.std.proofs.lemmas.Bool.{agree_below_at, both_ways, eqb-true}
@@ -9,6 +9,7 @@ use Rattle.modifier_map.specs.declared.class.ModClass.TheVariants as class
 use Rattle.modifier_map.specs.Table.{row, all_classes}
 use Rattle.hotkey_text.specs.Chords.{mask, has_class}
 use Rattle.hotkey_text.specs.SpellingWords.{IsNone}
+use Rattle.hotkey_text.proofs.SpelledWords.{bit_small}
 
 abbrev pub with_bit : Mask → ModClass → Mask
 with_bit m c = mask (bit_or m.0 (row c).bit)
@@ -26,13 +27,6 @@ abbrev pub free : Mask → ℕ
 free m = free_of all_classes m
 
 -- ---- one class more, in each mask
-
-bit_small : (c : ModClass) → (row c).bit < 2 ^ 5
-bit_small class.Shift = omega arith
-bit_small class.Control = omega arith
-bit_small class.Alt = omega arith
-bit_small class.Meta = omega arith
-bit_small class.Super = omega arith
 
 pub grown_small : (m : Mask) (c : ModClass) → m.0 < 32 → (with_bit m c).0 < 32
 grown_small m c h = or_lt 5 m.0 (row c).bit h (bit_small c)

@@ -12,8 +12,8 @@ use Rattle.hotkey_text.specs.Shapes.{ActionForm}
 use Rattle.hotkey_text.specs.Arguments.{ActionText, Key, Mouse, Lock, SwitchTo, SwitchToward, lock_at, side_at, screen_at, argument_of, action_of}
 use Rattle.hotkey_text.specs.SpellingWords.{SpellsArgument, SpellsWords}
 use Rattle.hotkey_text.proofs.WordsFound.{action_found}
-use Rattle.hotkey_text.proofs.WordSteps.{fault_there, table_word}
-use Rattle.hotkey_text.proofs.SpelledWords.{went}
+use Rattle.hotkey_text.proofs.WordSteps.{table_word}
+use Rattle.hotkey_text.proofs.SpelledWords.{went, there}
 use Rattle.hotkey_text.proofs.SpelledChords.{key_chord_takes, key_chord_read, mouse_chord_takes, mouse_chord_read}
 use Rattle.hotkey_text.proofs.SpelledArguments.{lock_takes, lock_read, side_takes, side_read, screen_takes, screen_read}
 
@@ -55,7 +55,7 @@ pub action_takes : (form : ActionForm) (text : ActionText) → action_of form �
 unfolding action_of
 action_takes form text e =
     let first = went (or_fault (action_named form.word.text) kind.UnknownAction form.word.left) (λ n. argument_of n form.argument) text e in
-    (first.0, table_word action_word action_names form.word.text first.0 (fault_there _ _ _ first.0 first.1), argument_takes first.0 form.argument text first.2)
+    (first.0, table_word action_word action_names form.word.text first.0 (there _ _ _ first.0 first.1), argument_takes first.0 form.argument text first.2)
 
 pub action_read : (form : ActionForm) (text : ActionText) → SpellsWords form text → action_of form ≡ Ok text
 unfolding action_of

@@ -23,8 +23,8 @@ use Rattle.hotkey_text.specs.Chords.{closed_at}
 use Rattle.hotkey_text.specs.Arguments.{ScreenText, lock_at, side_at, screen_at}
 use Rattle.hotkey_text.specs.SpellingWords.{SpellsLast, SpellsScreen}
 use Rattle.hotkey_text.proofs.WordsFound.{lock_found}
-use Rattle.hotkey_text.proofs.WordSteps.{fault_there, table_word, test_passed, word_made, last_made, word_read}
-use Rattle.hotkey_text.proofs.SpelledWords.{went}
+use Rattle.hotkey_text.proofs.WordSteps.{table_word, test_passed, word_made, last_made, word_read}
+use Rattle.hotkey_text.proofs.SpelledWords.{went, there}
 
 abbrev choice_run : List ℕ → Text × List ℕ
 choice_run xs = run_at (takes word_kind.Choice) xs
@@ -38,7 +38,7 @@ lock_takes xs m e =
     let mode = went (or_fault (lock_named word.0.text) kind.BadValue word.0.left) _ m e in
     let close = went (closed_at word.1) _ m mode.2 in
     let same : mode.0 ≡ m = cc in
-    let is = table_word lock_word (lock.On ∷ lock.Off ∷ lock.Toggle ∷ []) word.0.text mode.0 (fault_there _ _ _ mode.0 mode.1) in
+    let is = table_word lock_word (lock.On ∷ lock.Off ∷ lock.Toggle ∷ []) word.0.text mode.0 (there _ _ _ mode.0 mode.1) in
     subst (λ (x : LockMode). SpellsLast xs (lock_word x)) same (subst (SpellsLast xs) is (last_made (takes word_kind.Choice) xs close.0 close.1))
 
 lock_bytes : (m : LockMode) → IsRun (takes word_kind.Choice) (lock_word m)
@@ -59,10 +59,10 @@ pub side_takes : (xs : List ℕ) (s : Side) → side_at xs ≡ Ok s → SpellsLa
 unfolding side_at
 side_takes xs s e =
     let word = choice_run xs in
-    let there = went (or_fault (side_named word.0.text) kind.BadValue word.0.left) _ s e in
-    let close = went (closed_at word.1) _ s there.2 in
-    let same : there.0 ≡ s = cc in
-    let is = table_word side_text sides word.0.text there.0 (fault_there _ _ _ there.0 there.1) in
+    let found = went (or_fault (side_named word.0.text) kind.BadValue word.0.left) _ s e in
+    let close = went (closed_at word.1) _ s found.2 in
+    let same : found.0 ≡ s = cc in
+    let is = table_word side_text sides word.0.text found.0 (there _ _ _ found.0 found.1) in
     subst (λ (x : Side). SpellsLast xs (side_text x)) same (subst (SpellsLast xs) is (last_made (takes word_kind.Choice) xs close.0 close.1))
 
 side_bytes : (s : Side) → IsRun (takes word_kind.Choice) (side_text s)

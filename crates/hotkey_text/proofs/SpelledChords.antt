@@ -28,8 +28,8 @@ use Rattle.hotkey_text.specs.Keys.{key_named, is_modifier_key}
 use Rattle.hotkey_text.specs.Chords.{mask, mods_at, closed_at, allowed, key_chord_at, button_of, mouse_chord_at}
 use Rattle.hotkey_text.specs.SpellingWords.{SpellsMods, SpellsLast, AreApart, bits_of, SpellsKeyChord, SpellsMouseChord}
 use Rattle.hotkey_text.proofs.ArgumentBytes.{is_chord_byte, chord_taken, number_bytes}
-use Rattle.hotkey_text.proofs.WordSteps.{fault_there, last_made, word_read}
-use Rattle.hotkey_text.proofs.SpelledWords.{went}
+use Rattle.hotkey_text.proofs.WordSteps.{last_made, word_read}
+use Rattle.hotkey_text.proofs.SpelledWords.{went, there}
 use Rattle.hotkey_text.proofs.SpelledMods.{mods_take, mods_again}
 
 -- ---- modifiers and a last word
@@ -103,7 +103,7 @@ key_chord_takes modifiers xs chord e =
     let word = chord_run mods.0.1 in
     let id = went (or_fault (allowed modifiers (key_named word.0.text)) _ word.0.left) _ chord mods.2 in
     let close = went (closed_at word.1) _ chord id.2 in
-    let key = allowed_takes modifiers (key_named word.0.text) id.0 (fault_there _ _ _ id.0 id.1) in
+    let key = allowed_takes modifiers (key_named word.0.text) id.0 (there _ _ _ id.0 id.1) in
     let given : KeyChord = record { id = id.0; mods = mods.0.0 } in
     let same : given ≡ chord = cc in
     let m = mods_take xs mods.0 mods.1 in
@@ -163,7 +163,7 @@ mouse_chord_takes xs chord e =
     let word = chord_run mods.0.1 in
     let b = went (or_fault (button_of (decimal_of 255 word.0.text)) _ word.0.left) _ chord mods.2 in
     let close = went (closed_at word.1) _ chord b.2 in
-    let number = number_of word.0.text (decimal_of 255 word.0.text) b.0 refl (fault_there _ _ _ b.0 b.1) in
+    let number = number_of word.0.text (decimal_of 255 word.0.text) b.0 refl (there _ _ _ b.0 b.1) in
     let given : MouseChord = record { b = b.0; mods = mods.0.0 } in
     let same : given ≡ chord = cc in
     let m = mods_take xs mods.0 mods.1 in

@@ -1,5 +1,5 @@
 -- One word of a hotkey's line, with the gap behind it: what a run of bytes takes, and how a chain of readers is taken apart.
-use Rattle.std.proofs.Common.{◌≡◌, ℕ, Bool, true, false, cond, ◌==◌, List, [], ◌∷◌, ◌++◌, length, Option, Some, None, Result, Ok, Err, refl, ap, sym, subst, ◌∙◌}
+use Rattle.std.proofs.Common.{◌≡◌, ℕ, Bool, true, false, cond, ◌==◌, List, [], ◌∷◌, ◌++◌, length, Some, None, Result, Ok, Err, refl, ap, sym, subst, ◌∙◌}
 use Rattle.std.specs.List.{find}
 use Rattle.std.specs.Str.{bytes_eq}
 use Rattle.std.proofs.lemmas.Bool.{eqb-true, eq-eqb}
@@ -13,15 +13,11 @@ use Rattle.text_lines.proofs.WordsAgain.{text_of}
 use Rattle.hotkey_rules.proofs.FirstFound.{found_listed}
 use Rattle.hotkey_text.specs.declared.faults.HotkeyFault.{HotkeyFault}
 use Rattle.hotkey_text.specs.declared.faults.HotkeyKind.{HotkeyKind}
-use Rattle.hotkey_text.specs.Faults.{unless, or_fault}
+use Rattle.hotkey_text.specs.Faults.{unless}
 use Rattle.hotkey_text.specs.Chords.{closed_at}
 use Rattle.hotkey_text.specs.SpellingWords.{SpellsWord, SpellsLast}
 
--- what is there, with no fault
-pub fault_there : {A : Type 0} (o : Option A) (k : HotkeyKind) (left : ℕ) (a : A) → or_fault o k left ≡ Ok a → o ≡ Some a
-fault_there (Some x) k left a e = cc
-fault_there None k left a e = absurd cc
-
+-- what a test says that went well
 pub test_passed : (t : Bool) (k : HotkeyKind) (left : ℕ) (u : Unit {0}) → unless t k left ≡ Ok u → t ≡ true
 test_passed true k left u e = refl
 test_passed false k left u e = absurd cc
