@@ -23,14 +23,12 @@ use Rattle.hotkey_text.specs.Printed.{key_text, mod_text, mods_text, key_chord_t
 use Rattle.hotkey_text.specs.Spelled.{is_key, are_mods, is_mouse_button, is_key_chord, is_mouse_chord}
 use Rattle.hotkey_text.specs.Again.{is_argument_byte}
 use Rattle.hotkey_text.proofs.ArgumentBytes.{is_chord_byte, chord_argument, chord_taken, class_taken, mods_bytes, key_chord, number_bytes, argument_tight}
+use Rattle.hotkey_text.proofs.FreeClasses.{grown}
 use Rattle.hotkey_text.proofs.KeysAgain.{key_again}
 use Rattle.hotkey_text.proofs.ModSteps.{last_word, one_modifier}
 use Rattle.hotkey_text.proofs.WordsFound.{class_found}
 
 -- ---- one modifier
-
-abbrev pub grown : Mask → ModClass → Mask
-grown m c = mask (bit_or m.0 (row c).bit)
 
 modifier_again : (m : Mask) (c : ModClass) (left : ℕ) → has_class m c ≡ false → with_modifier m (text_of (class_word c) left) ≡ Ok (grown m c)
 unfolding with_modifier

@@ -27,7 +27,8 @@ use Rattle.hotkey_text.specs.Shapes.{ActionForm, HotkeyForm, has_some}
 use Rattle.hotkey_text.specs.Arguments.{trigger_at, trigger_of, ScreenText, ActionText, SwitchTo, lock_at, side_at, screen_at, argument_of, action_of}
 use Rattle.hotkey_text.specs.FaultLists.{fault_unless, mod_faults, further_faults, key_chord_faults, mouse_chord_faults, word_faults, argument_faults, named_faults, action_faults, chord_faults, trigger_faults, first, refusal_of, faults_left, refusal_among}
 use Rattle.hotkey_text.proofs.SpelledChordWords.{chord_run, part_of, plus_there, plus_shorter}
-use Rattle.hotkey_text.proofs.WordsAbove.{count_free, StandsFor, stands_for_none, Refused, Taken, judged}
+use Rattle.hotkey_text.proofs.FreeClasses.{free}
+use Rattle.hotkey_text.proofs.WordsAbove.{StandsFor, stands_for_none, Refused, Taken, judged}
 
 -- ---- steps
 
@@ -52,18 +53,18 @@ abbrev GoesOn : {A : Type 0} → (Mask × List ℕ → Result A HotkeyFault) →
 GoesOn f fs words = (out : Mask × List ℕ) → chord_run out.1 ≡ (words.last, words.rest) → refusal_of (f out) ≡ first fs
 
 abbrev AreFirst : {A : Type 0} → (Mask × List ℕ → Result A HotkeyFault) → List HotkeyFault → ℕ → ℕ → Type 0
-AreFirst f fs n k = (m : Mask) (above : List Text) (xs : List ℕ) → length xs ≤ k → StandsFor m above → count_free m < n → GoesOn f fs (words_within k xs)
+AreFirst f fs n k = (m : Mask) (above : List Text) (xs : List ℕ) → length xs ≤ k → StandsFor m above → free m < n → GoesOn f fs (words_within k xs)
     → refusal_of (mods_within n m xs >>= f) ≡ first (mod_faults above (words_within k xs).mods ++ fs)
 
 word_first : {A : Type 0} (f : Mask × List ℕ → Result A HotkeyFault) (fs : List HotkeyFault) (n k : ℕ) (m : Mask) (above : List Text) (word : Text) (rest : List ℕ)
-    → AreFirst f fs n k → length rest ≤ k → count_free m < suc n → GoesOn f fs (words_within k rest) → Refused m above word ⊎ Taken m above word
+    → AreFirst f fs n k → length rest ≤ k → free m < suc n → GoesOn f fs (words_within k rest) → Refused m above word ⊎ Taken m above word
     → refusal_of ((with_modifier m word >>= λ next. mods_within n next rest) >>= f) ≡ first (mod_faults above (word ∷ (words_within k rest).mods) ++ fs)
 unfolding mod_faults
 word_first f fs n k m above word rest again h l go (inl r) = rw (r.read, r.judged) refl
 word_first f fs n k m above word rest again h l go (inr t) = rw (t.read, t.judged) (again t.next (above ++ word ∷ []) rest h t.stands (omega (arith, t.fewer)) go)
 
 turn_first : {A : Type 0} (f : Mask × List ℕ → Result A HotkeyFault) (fs : List HotkeyFault) (n k : ℕ) (m : Mask) (above : List Text) (xs : List ℕ) (o : Option (List ℕ))
-    → AreFirst f fs n k → maybe_sign_at 43 (chord_run xs).1 ≡ o → length xs ≤ suc k → StandsFor m above → count_free m < suc n → GoesOn f fs (word_or_last (words_within k) (chord_run xs) o)
+    → AreFirst f fs n k → maybe_sign_at 43 (chord_run xs).1 ≡ o → length xs ≤ suc k → StandsFor m above → free m < suc n → GoesOn f fs (word_or_last (words_within k) (chord_run xs) o)
     → refusal_of (or_last_word (mods_within n) m xs (chord_run xs).0 o >>= f) ≡ first (mod_faults above (word_or_last (words_within k) (chord_run xs) o).mods ++ fs)
 unfolding mod_faults
 turn_first f fs n k m above xs None again e h s l go = go (m, xs) refl

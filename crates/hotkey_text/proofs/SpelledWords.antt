@@ -45,13 +45,13 @@ pub went : {A B E : Type 0} (r : Result A E) (f : A → Result B E) (b : B) → 
 went (Ok a) f b e = (a, refl, e)
 went (Err x) f b e = absurd cc
 
-there : {A : Type 0} (o : Option A) (k : HotkeyKind) (left : ℕ) (a : A) → or_fault o k left ≡ Ok a → o ≡ Some a
+pub there : {A : Type 0} (o : Option A) (k : HotkeyKind) (left : ℕ) (a : A) → or_fault o k left ≡ Ok a → o ≡ Some a
 there (Some x) k left a e = let same : x ≡ a = cc in ap (λ y. Some y) same
 there None k left a e = absurd cc
 
 -- ---- modifiers
 
-bit_small : (c : ModClass) → (row c).bit < 2 ^ 5
+pub bit_small : (c : ModClass) → (row c).bit < 2 ^ 5
 bit_small class.Shift = omega arith
 bit_small class.Control = omega arith
 bit_small class.Alt = omega arith

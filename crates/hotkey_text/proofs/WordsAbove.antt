@@ -22,7 +22,7 @@ use Rattle.hotkey_text.specs.Faults.{fault_at}
 use Rattle.hotkey_text.specs.Chords.{mask, class_word, class_named, has_class, with_modifier}
 use Rattle.hotkey_text.specs.FaultLists.{is_new_modifier}
 use Rattle.hotkey_text.proofs.ArgumentBytes.{listed_passes}
-use Rattle.hotkey_text.proofs.ChordsAgain.{grown}
+use Rattle.hotkey_text.proofs.FreeClasses.{grown, free, grown_small, new_takes_one, none_there}
 
 -- ---- masks, one by one
 
@@ -32,10 +32,6 @@ each_class p h class.Control = listed_passes p all_classes class.Control h (1, o
 each_class p h class.Alt = listed_passes p all_classes class.Alt h (2, omega arith, refl)
 each_class p h class.Meta = listed_passes p all_classes class.Meta h (3, omega arith, refl)
 each_class p h class.Super = listed_passes p all_classes class.Super h (4, omega arith, refl)
-
--- how many classes are not in the mask
-abbrev pub count_free : Mask → ℕ
-count_free m = count_by (λ c. not (has_class m c)) all_classes
 
 same_bit : (a b : Bool) → beq a b ≡ true → a ≡ b
 same_bit true true h = refl
@@ -52,24 +48,6 @@ all_either n h = agree_below_at (λ k. list_all (λ c. list_all (λ d. has_eithe
 
 grown_has : (m : Mask) (c d : ModClass) → m.0 < 32 → has_class (grown m c) d ≡ (has_class m d || same_name (class_word d) (class_word c))
 grown_has m c d h = same_bit _ _ (each_class (λ e. has_either c e m.0) (each_class (λ f. list_all (λ e. has_either f e m.0) all_classes) (all_either m.0 h) c) d)
-
-grown_small : (m : Mask) (c : ModClass) → m.0 < 32 → (grown m c).0 < 32
-grown_small m c h =
-    ltb-true _ 32
-    (each_class (λ d. nat_lt (grown m d).0 32) (agree_below_at (λ k. list_all (λ d. nat_lt (grown (mask k) d).0 32) all_classes) (λ k. true) 32 m.0 refl h) c)
-
-abbrev takes_place : ℕ → ModClass → Bool
-takes_place n c = has_class (mask n) c || nat_lt (count_free (grown (mask n) c)) (count_free (mask n))
-
-all_take_place : (n : ℕ) → n < 32 → list_all (takes_place n) all_classes ≡ true
-all_take_place n h = agree_below_at (λ k. list_all (takes_place k) all_classes) (λ k. true) 32 n refl h
-
-or_other : (a b : Bool) → a ≡ false → (a || b) ≡ true → b ≡ true
-or_other true b e h = absurd cc
-or_other false b e h = h
-
-grown_free : (m : Mask) (c : ModClass) → m.0 < 32 → has_class m c ≡ false → count_free (grown m c) < count_free m
-grown_free m c h new = ltb-true _ _ (or_other (has_class m c) _ new (each_class (takes_place m.0) (all_take_place m.0 h) c))
 
 -- ---- words
 
@@ -96,13 +74,6 @@ pub record StandsFor (m : Mask) (above : List Text) : Type 0 where
 
 pub stands_for_none : StandsFor (mask 0) []
 stands_for_none = record { small = omega arith; classes = λ c. none_there c }
-  where
-    none_there : (c : ModClass) → has_class (mask 0) c ≡ false
-    none_there class.Shift = refl
-    none_there class.Control = refl
-    none_there class.Alt = refl
-    none_there class.Meta = refl
-    none_there class.Super = refl
 
 or_one : (a b : Bool) → (a || (b || false)) ≡ (a || b)
 or_one true b = refl
@@ -137,7 +108,7 @@ pub record Taken (m : Mask) (above : List Text) (word : Text) : Type 0 where
   pub read : with_modifier m word ≡ Ok next
   pub judged : is_new_modifier above word ≡ true
   pub stands : StandsFor next (above ++ word ∷ [])
-  pub fewer : count_free next < count_free m
+  pub fewer : free m ≡ suc (free next)
 
 class_judged : (t : Bool) (m : Mask) (above : List Text) (word : Text) (c : ModClass) → StandsFor m above → class_named word.text ≡ Some c → names c word ≡ true → has_class m c ≡ t
     → Refused m above word ⊎ Taken m above word
@@ -147,7 +118,7 @@ class_judged true m above word c s e n h =
     inl (record { read = rw (e, h) refl; judged = rw (e, there) refl })
 class_judged false m above word c s e n h =
     let there = sym (named_above c word above n) ∙ sym (s.classes c) ∙ h in
-    inr (record { next = grown m c; read = rw (e, h) refl; judged = rw (e, there) refl; stands = stands_for_more m above word c s n; fewer = grown_free m c s.small h })
+    inr (record { next = grown m c; read = rw (e, h) refl; judged = rw (e, there) refl; stands = stands_for_more m above word c s n; fewer = new_takes_one m c s.small h })
 
 judged_by : (o : Option ModClass) (m : Mask) (above : List Text) (word : Text) → StandsFor m above → class_named word.text ≡ o → Refused m above word ⊎ Taken m above word
 unfolding with_modifier class_named

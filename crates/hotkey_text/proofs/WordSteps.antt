@@ -1,0 +1,82 @@
+-- One word of a hotkey's line, with the gap behind it: what a run of bytes takes, and how a chain of readers is taken apart.
+use Rattle.std.proofs.Common.{◌≡◌, ℕ, Bool, true, false, cond, ◌==◌, List, [], ◌∷◌, ◌++◌, length, Some, None, Result, Ok, Err, refl, ap, sym, subst, ◌∙◌}
+use Rattle.std.specs.List.{find}
+use Rattle.std.specs.Str.{bytes_eq}
+use Rattle.std.proofs.lemmas.Bool.{eqb-true, eq-eqb}
+use Rattle.std.proofs.lemmas.Slice.Eq.{bytes_eq-Decides}
+use Rattle.text_lines.specs.declared.bytes.WordKind.{WordKind}
+use Rattle.text_lines.specs.Bytes.{takes, behind, is_tight, unblanked}
+use Rattle.text_lines.specs.Reading.{run_at, maybe_sign_at, begins}
+use Rattle.text_lines.specs.Spelling.{IsRun, IsGap}
+use Rattle.text_lines.proofs.SpelledWords.{Gap, Sign, Breaks, has_no_blank, run_takes, gap_of, gap_again, gap_breaks, front_again, behind_again}
+use Rattle.text_lines.proofs.WordsAgain.{text_of}
+use Rattle.hotkey_rules.proofs.FirstFound.{found_listed}
+use Rattle.hotkey_text.specs.declared.faults.HotkeyFault.{HotkeyFault}
+use Rattle.hotkey_text.specs.declared.faults.HotkeyKind.{HotkeyKind}
+use Rattle.hotkey_text.specs.Faults.{unless}
+use Rattle.hotkey_text.specs.Chords.{closed_at}
+use Rattle.hotkey_text.specs.SpellingWords.{SpellsWord, SpellsLast}
+
+-- what a test says that went well
+pub test_passed : (t : Bool) (k : HotkeyKind) (left : ℕ) (u : Unit {0}) → unless t k left ≡ Ok u → t ≡ true
+test_passed true k left u e = refl
+test_passed false k left u e = absurd cc
+
+-- one answer alone
+pub one_read : {A : Type 0} (r : Result A HotkeyFault) (x y : A) → r ≡ Ok x → r ≡ Ok y → x ≡ y
+one_read (Ok z) x y h k = cc
+one_read (Err f) x y h k = absurd cc
+
+-- ---- signs
+
+sign_by : (t : Bool) (b c : ℕ) (bs rest : List ℕ) → (b == c) ≡ t → cond t (Some (unblanked bs)) None ≡ Some rest → Sign c (b ∷ bs) rest
+sign_by true b c bs rest e h =
+    let same : unblanked bs ≡ rest = cc in
+    record { tail = bs; parts = ap (λ n. n ∷ bs) (eqb-true b c e); gap = subst (λ (r : List ℕ). Gap bs r) same (gap_of bs) }
+sign_by false b c bs rest e h = absurd cc
+
+pub maybe_sign_takes : (c : ℕ) (xs rest : List ℕ) → maybe_sign_at c xs ≡ Some rest → Sign c xs rest
+unfolding maybe_sign_at
+maybe_sign_takes c [] rest h = absurd cc
+maybe_sign_takes c (b ∷ bs) rest h = sign_by (b == c) b c bs rest refl h
+
+pub maybe_sign_again : (c : ℕ) (gap rest : List ℕ) → IsGap gap → is_tight rest ≡ true → maybe_sign_at c (c ∷ (gap ++ rest)) ≡ Some rest
+unfolding maybe_sign_at
+maybe_sign_again c gap rest h t = rw (eq-eqb c c refl, gap_again gap rest h t) refl
+
+-- the byte that a line begins with
+pub begun : (c : ℕ) (xs : List ℕ) → begins c xs ≡ true → (rest : List ℕ) × (xs ≡ c ∷ rest)
+begun c [] h = absurd cc
+begun c (b ∷ bs) h = (bs, ap (λ n. n ∷ bs) (eqb-true b c h))
+
+-- ---- words
+
+pub word_made : (p : ℕ → Bool) (xs : List ℕ) (rest : List ℕ) → (run_at p xs).1 ≡ rest → SpellsWord xs (run_at p xs).0.text rest
+word_made p xs rest e =
+    let run = run_takes p xs in
+    record {
+      behind_word = run.gap.gap;
+      text = run.parts ∙ ap (λ (x : List ℕ). (run_at p xs).0.text ++ x) (run.gap.parts ∙ ap (λ (x : List ℕ). run.gap.gap ++ x) e);
+      gap = run.gap.blank;
+    }
+
+pub last_made : (p : ℕ → Bool) (xs : List ℕ) (u : Unit {0}) → closed_at (run_at p xs).1 ≡ Ok u → SpellsLast xs (run_at p xs).0.text
+last_made p xs u e =
+    let close = begun 41 (run_at p xs).1 (test_passed _ _ _ u e) in
+    (close.0, word_made p xs (41 ∷ close.0) close.1)
+
+-- a word is read up to a byte of another kind that is no blank
+pub word_read : (k : WordKind) → has_no_blank k ≡ true → (xs word rest : List ℕ) → SpellsWord xs word rest → IsRun (takes k) word → Breaks (takes k) rest → is_tight rest ≡ true
+    → run_at (takes k) xs ≡ (text_of word (length xs), rest)
+word_read k s xs word rest w run breaks tight =
+    let tail = w.behind_word ++ rest in
+    let breaks_all = gap_breaks k s w.behind_word rest w.gap breaks in
+    ap (run_at (takes k)) w.text
+    ∙ ap (λ (t : List ℕ). (text_of t (length (word ++ tail)), unblanked (behind (takes k) (word ++ tail)))) (front_again (takes k) word tail run breaks_all)
+    ∙ ap (λ (t : List ℕ). (text_of word (length (word ++ tail)), unblanked t)) (behind_again (takes k) word tail run breaks_all)
+    ∙ ap (λ (t : List ℕ). (text_of word (length (word ++ tail)), t)) (gap_again w.behind_word rest w.gap tight)
+    ∙ ap (λ (t : List ℕ). (text_of word (length t), rest)) (sym w.text)
+
+-- the word of a table that was found
+pub table_word : {A : Type 0} (text : A → List ℕ) (all : List A) (word : List ℕ) (x : A) → find (λ y. bytes_eq (text y) word) all ≡ Some x → word ≡ text x
+table_word text all word x h = sym ((bytes_eq-Decides (text x) word).0 (found_listed (λ y. bytes_eq (text y) word) all x h).1)
