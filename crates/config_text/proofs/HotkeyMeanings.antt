@@ -8,7 +8,8 @@ use Rattle.text_lines.specs.Reading.{◌>>=◌}
 use Rattle.hotkey_text.specs.declared.faults.HotkeyFault.{HotkeyFault}
 use Rattle.hotkey_text.specs.Shapes.{ActionForm, HotkeyForm}
 use Rattle.hotkey_text.specs.Arguments as words
-use Rattle.hotkey_text.specs.SpellingWords.{SpellsTrigger, SpellsWords}
+use Rattle.hotkey_text.proofs.SpelledActions.{action_takes, action_read}
+use Rattle.hotkey_text.proofs.SpelledTriggers.{trigger_takes, trigger_read}
 use Rattle.hotkey_text.proofs.SpelledWords.{went}
 use Rattle.config_text.specs.declared.faults.ConfigKind.{ConfigKind}
 use Rattle.config_text.specs.declared.faults.ConfigKind.TheVariants as kind
@@ -57,45 +58,38 @@ means_meant c (words.Lock mode) a m = cc
 means_meant c (words.SwitchTo s) a m = rw (m.1, m.2, m.3) refl
 means_meant c (words.SwitchToward side) a m = cc
 
--- ---- actions and the line, by what is known of their words
+-- ---- actions and the line
 
-abbrev pub WordsSpelled : Type 0
-WordsSpelled = (form : ActionForm) (text : words.ActionText) → words.action_of form ≡ Ok text → SpellsWords form text
-
-abbrev pub WordsRead : Type 0
-WordsRead = (form : ActionForm) (text : words.ActionText) → SpellsWords form text → words.action_of form ≡ Ok text
-
-action_means : WordsSpelled → (c : Configuration) (form : ActionForm) (a : Action) → action_of c form ≡ Ok a → MeansAction c form a
+action_means : (c : Configuration) (form : ActionForm) (a : Action) → action_of c form ≡ Ok a → MeansAction c form a
 unfolding action_of
-action_means spelled c form a e =
+action_means c form a e =
     let text = went (judged_words (words.action_of form)) (λ text. meant c text) a e in
-    (text.0, spelled form text.0 (words_taken (words.action_of form) text.0 text.1), meant_means c text.0 a text.2)
+    (text.0, action_takes form text.0 (words_taken (words.action_of form) text.0 text.1), meant_means c text.0 a text.2)
 
-means_action : WordsRead → (c : Configuration) (form : ActionForm) (a : Action) → MeansAction c form a → action_of c form ≡ Ok a
+means_action : (c : Configuration) (form : ActionForm) (a : Action) → MeansAction c form a → action_of c form ≡ Ok a
 unfolding action_of
-means_action read c form a m = rw (read form m.0 m.1) (means_meant c m.0 a m.2)
+means_action c form a m = rw (action_read form m.0 m.1) (means_meant c m.0 a m.2)
 
-actions_mean : WordsSpelled → (c : Configuration) (forms : List ActionForm) (actions : List Action) → actions_of c forms ≡ Ok actions → AllZip (λ form a. MeansAction c form a) forms actions
+actions_mean : (c : Configuration) (forms : List ActionForm) (actions : List Action) → actions_of c forms ≡ Ok actions → AllZip (λ form a. MeansAction c form a) forms actions
 unfolding actions_of
-actions_mean spelled c [] [] e = tt
-actions_mean spelled c [] (a ∷ actions) e = absurd cc
-actions_mean spelled c (form ∷ forms) actions e =
+actions_mean c [] [] e = tt
+actions_mean c [] (a ∷ actions) e = absurd cc
+actions_mean c (form ∷ forms) actions e =
     let one = went (action_of c form) (λ x. actions_of c forms >>= λ rest. Ok (x ∷ rest)) actions e in
     let others = went (actions_of c forms) (λ rest. Ok (one.0 ∷ rest)) actions one.2 in
     let same : one.0 ∷ others.0 ≡ actions = cc in
-    subst (λ (l : List Action). AllZip (λ form a. MeansAction c form a) (form ∷ forms) l) same (action_means spelled c form one.0 one.1, actions_mean spelled c forms others.0 others.1)
+    subst (λ (l : List Action). AllZip (λ form a. MeansAction c form a) (form ∷ forms) l) same (action_means c form one.0 one.1, actions_mean c forms others.0 others.1)
 
-mean_actions : WordsRead → (c : Configuration) (forms : List ActionForm) (actions : List Action) → AllZip (λ form a. MeansAction c form a) forms actions → actions_of c forms ≡ Ok actions
+mean_actions : (c : Configuration) (forms : List ActionForm) (actions : List Action) → AllZip (λ form a. MeansAction c form a) forms actions → actions_of c forms ≡ Ok actions
 unfolding actions_of
-mean_actions read c [] [] m = refl
-mean_actions read c [] (a ∷ actions) m = absurd m
-mean_actions read c (form ∷ forms) [] m = absurd m
-mean_actions read c (form ∷ forms) (a ∷ actions) m = rw (means_action read c form a m.0, mean_actions read c forms actions m.1) refl
+mean_actions c [] [] m = refl
+mean_actions c [] (a ∷ actions) m = absurd m
+mean_actions c (form ∷ forms) [] m = absurd m
+mean_actions c (form ∷ forms) (a ∷ actions) m = rw (means_action c form a m.0, mean_actions c forms actions m.1) refl
 
-pub hotkey_means : ((line : HotkeyForm) (t : Trigger) → words.trigger_of line ≡ Ok t → SpellsTrigger line t) → WordsSpelled
-    → (whole : ℕ) (c more : Configuration) (line : HotkeyForm) → new_hotkey whole c line ≡ Ok more → MeansHotkey c line more
+pub hotkey_means : (whole : ℕ) (c more : Configuration) (line : HotkeyForm) → new_hotkey whole c line ≡ Ok more → MeansHotkey c line more
 unfolding new_hotkey
-hotkey_means triggers spelled whole c more line e =
+hotkey_means whole c more line e =
     let t = went (judged_words (words.trigger_of line)) _ more e in
     let press = went (actions_of c line.press) _ more t.2 in
     let release = went (actions_of c line.release) _ more press.2 in
@@ -104,15 +98,14 @@ hotkey_means triggers spelled whole c more line e =
       trigger = t.0;
       press = press.0;
       release = release.0;
-      spelled = triggers line t.0 (words_taken (words.trigger_of line) t.0 t.1);
-      pressed = actions_mean spelled c line.press press.0 press.1;
-      released = actions_mean spelled c line.release release.0 release.1;
+      spelled = trigger_takes line t.0 (words_taken (words.trigger_of line) t.0 t.1);
+      pressed = actions_mean c line.press press.0 press.1;
+      released = actions_mean c line.release release.0 release.1;
       room = holds (has_room c.hotkeys (press.0 ++ release.0)) kind.TooMany whole room.0 room.1;
       rule = cc;
     }
 
-pub means_hotkey : ((line : HotkeyForm) (t : Trigger) → SpellsTrigger line t → words.trigger_of line ≡ Ok t) → WordsRead
-    → (whole : ℕ) (c more : Configuration) (line : HotkeyForm) → MeansHotkey c line more → new_hotkey whole c line ≡ Ok more
+pub means_hotkey : (whole : ℕ) (c more : Configuration) (line : HotkeyForm) → MeansHotkey c line more → new_hotkey whole c line ≡ Ok more
 unfolding new_hotkey
-means_hotkey triggers read whole c more line m =
-    rw (triggers line m.trigger m.spelled, mean_actions read c line.press m.press m.pressed, mean_actions read c line.release m.release m.released, m.room, m.rule) refl
+means_hotkey whole c more line m =
+    rw (trigger_read line m.trigger m.spelled, mean_actions c line.press m.press m.pressed, mean_actions c line.release m.release m.released, m.room, m.rule) refl
