@@ -12,3 +12,5 @@ pub mod RefusalLaws
 pub mod Putting
 pub mod Narrow
 pub mod OneVerdict
+pub mod RowFields
+pub mod SpelledOrRefused
