@@ -14,3 +14,4 @@ pub mod Narrow
 pub mod OneVerdict
 pub mod RowFields
 pub mod SpelledOrRefused
+pub mod HasVerdict
