@@ -12,11 +12,11 @@ use Rattle.message_codec.specs.declared.coding.Code.TheVariants as code
 use Rattle.message_codec.specs.Fields.{Field, Byte, Half, Signed, Word, Clip, Mark, Text, Words}
 use Rattle.message_codec.specs.Table.{code_of, fields}
 
-the_signed : Field → ℤ
+unfoldable pub the_signed : Field → ℤ
 the_signed (Signed z) = z
 the_signed f = pos 0
 
-the_number : Field → ℕ
+unfoldable pub the_number : Field → ℕ
 the_number (Byte n) = n
 the_number (Half n) = n
 the_number (Word n) = n
@@ -24,26 +24,26 @@ the_number (Clip n) = n
 the_number (Mark n) = n
 the_number f = 0
 
-the_list : Field → List ℕ
+unfoldable pub the_list : Field → List ℕ
 the_list (Text bytes) = bytes
 the_list (Words ns) = ns
 the_list f = []
 
-clip_of : ℕ → ClipId
+unfoldable pub clip_of : ℕ → ClipId
 clip_of zero = clips.Clipboard
 clip_of (suc n) = clips.Selection
 
-mark_of : ℕ → ClipMark
+unfoldable pub mark_of : ℕ → ClipMark
 mark_of zero = marks.Start
 mark_of (suc zero) = marks.Start
 mark_of (suc (suc zero)) = marks.Chunk
 mark_of (suc (suc (suc n))) = marks.End
 
-field_at : List Field → ℕ → Field
+unfoldable pub field_at : List Field → ℕ → Field
 field_at fs i = slice_index_or fs i (Byte 0)
 
 -- the message of a code and fields
-built : Code → List Field → Msg
+unfoldable pub built : Code → List Field → Msg
 built code.Hello fs = msg.Hello (the_number (field_at fs 0)) (the_number (field_at fs 1))
 built code.HelloBack fs = msg.HelloBack (the_number (field_at fs 0)) (the_number (field_at fs 1)) (the_list (field_at fs 2))
 built code.QueryInfo fs = msg.QueryInfo

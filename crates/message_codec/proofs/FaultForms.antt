@@ -46,7 +46,7 @@ left_within from body left small r =
     let e = fields_lack (kinds r.code) r.after left (after_small from body r.code r.after small r.begins) r.reading in
     omega (arith, e.count_is, ap length r.begins, length-append (text r.code) r.after, ap length e.bytes_are, length-append (spelled_all e.whole) (e.parts ++ e.left), length-append e.parts e.left)
 
-whole_is : (from : End) (body : List ℕ) (fs : List Field) (rest : List ℕ) → IsBytes body → (r : Reads from body (Ok (fs, rest))) → Whole from body r.code fs rest
+pub whole_is : (from : End) (body : List ℕ) (fs : List Field) (rest : List ℕ) → IsBytes body → (r : Reads from body (Ok (fs, rest))) → Whole from body r.code fs rest
 whole_is from body fs rest small r =
     let t = fields_take (kinds r.code) r.after (fs, rest) (after_small from body r.code r.after small r.begins) r.reading in
     record { begins = record { sent = r.sent; fits = t.fits; body_is = r.begins ∙ ap (λ (a : List ℕ). text r.code ++ a) t.taken.parts }; row = sym t.kind }

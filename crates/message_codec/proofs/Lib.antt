@@ -12,3 +12,6 @@ pub mod RefusalLaws
 pub mod Putting
 pub mod Narrow
 pub mod OneVerdict
+pub mod RowFields
+pub mod SpelledOrRefused
+pub mod HasVerdict

@@ -128,7 +128,7 @@ one_good r before m n x y g h same =
 
 -- ---- the whole stream
 
-regroup : (before : List Msg) (m : Msg) (ms : List Msg) → before ++ m ∷ ms ≡ (before ++ m ∷ []) ++ ms
+pub regroup : (before : List Msg) (m : Msg) (ms : List Msg) → before ++ m ∷ ms ≡ (before ++ m ∷ []) ++ ms
 regroup before m ms = sym (append_assoc before (m ∷ []) ms)
 
 -- messages that may stand there, and others that may stand after them

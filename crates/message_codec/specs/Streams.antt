@@ -1,6 +1,6 @@
 -- Streams that are made of messages, as a reader takes them.
-use Rattle.std.specs.Prelude.{◌≡◌, ℕ, ◌≤◌, Bool, true, List, [], ◌∷◌, ◌++◌, length}
-use Rattle.std.specs.List.{flat_map}
+use Rattle.std.specs.Prelude.{◌≡◌, ℕ, ◌<◌, ◌≤◌, ◌^◌, Bool, true, List, [], ◌∷◌, ◌++◌, length}
+use Rattle.std.specs.List.{flat_map, AllByRecursion}
 use Rattle.std.proofs.Common.{lit≤}
 use Rattle.wire_frames.specs.Framing.{frame}
 use Rattle.message_codec.specs.declared.messages.End.{End}
@@ -9,6 +9,10 @@ use Rattle.message_codec.specs.Spelling.{body_of, Spells}
 
 abbrev pub body_limit : ℕ
 body_limit = 4194304
+
+-- numbers below 256
+abbrev pub AreBytes : List ℕ → Type 0
+AreBytes xs = AllByRecursion (λ b. b < 2 ^ 8) xs
 
 -- the frame of a message
 abbrev pub frame_of : Msg → List ℕ

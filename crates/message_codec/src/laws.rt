@@ -1,6 +1,6 @@
 //! Laws of spelling on which other crates rest. The calls do nothing: their contracts are the laws.
 
-ghost use Rattle.std.specs.Prelude.{◌≡◌, List, ℕ, Result, IfOk, IfErr};
+ghost use Rattle.std.specs.Prelude.{◌≡◌, ◌<◌, ◌^◌, ◌⊎◌, List, length, ℕ, Result, IfOk, IfErr};
 ghost use Rattle.message_codec.specs.declared.messages.End.{End};
 ghost use Rattle.message_codec.specs.declared.messages.Msg.{Msg};
 ghost use Rattle.message_codec.specs.declared.faults.BadBody.{BadBody};
@@ -8,7 +8,7 @@ ghost use Rattle.message_codec.specs.declared.faults.DecodeFault.{DecodeFault};
 ghost use Rattle.message_codec.specs.Spelling.{Spells};
 ghost use Rattle.message_codec.specs.Refusals.{Refuses, RefusedFor};
 ghost use Rattle.message_codec.specs.Decoding.{IsDecoded};
-ghost use Rattle.message_codec.specs.Streams.{Reader};
+ghost use Rattle.message_codec.specs.Streams.{Reader, AreBytes};
 ghost use Rattle.message_codec.specs.Verdicts.{Verdict};
 
 /// No body spells two messages of one end.
@@ -30,6 +30,16 @@ pub fn one_refusal()
 /// want of memory. So what `encode` makes is decoded as the message that it was made of.
 pub fn spelled_is_decoded()
     ensures { (from : End) (m : Msg) (body : List ℕ) (answer : Result Msg DecodeFault) → Spells from m body → IfOk answer (λ n. Spells from n body) → IfErr answer (λ fault. RefusedFor fault from body) → IsDecoded m answer }
+{}
+
+/// A body of at most 4,294,967,295 bytes spells a message of an end, or it is refused for a fault.
+pub fn spelled_or_refused()
+    ensures { (from : End) (body : List ℕ) → AreBytes body → length body < 2 ^ 32 → ((m : Msg) × Spells from m body) ⊎ ((why : BadBody) × Refuses why from body) }
+{}
+
+/// A reader comes to a verdict on each stream.
+pub fn each_has_a_verdict()
+    ensures { (reader : Reader) (stream : List ℕ) → AreBytes stream → Verdict reader stream }
 {}
 
 /// A reader comes to one verdict on a stream: the same messages, the same rest at the same place, and

@@ -1,10 +1,11 @@
 -- What stands at the front of a stream.
 use Rattle.std.proofs.Common.{◌≡◌, ℕ, ◌+◌, ◌-◌, ◌^◌, ◌<◌, ◌≤◌, Bool, true, false, List, ◌++◌, length, get_or, take, drop, refl, sym, ap, subst, ◌∙◌, append_assoc, arith, inl, inr}
+use Rattle.std.specs.Prelude.{◌⊎◌}
 use Rattle.std.specs.Int.{w32, to_be_bytes}
 use Rattle.std.proofs.lemmas.List.{take-append-drop, drop-drop, length-take, length-drop, get_or-take, get_or_past}
 use Rattle.std.proofs.lemmas.Bool.{cases_lt}
 use Rattle.std.proofs.lemmas.Nat.{be_bytes_4}
-use Rattle.wire_frames.specs.Framing.{frame, length_field, IsTooLong}
+use Rattle.wire_frames.specs.Framing.{frame, length_field, IsPartial, IsTooLong}
 use Rattle.wire_frames.specs.Framers.{FramerParts, moved}
 use Rattle.wire_frames.specs.Steps.{IsFirst}
 
@@ -75,3 +76,21 @@ pub bounded : (f : FramerParts) (gone last limit : ℕ) (over : Bool) (bytes : L
 bounded f gone last limit over bytes parts le lt =
     let P : FramerParts → Type 0 = λ g. g.given + length g.rest < 2 ^ 63 in
     subst P parts (omega (arith, length-drop last bytes))
+
+-- less than a frame, a length above the limit, or a frame within it stands at the front
+pub front_of : (limit : ℕ) (bytes : List ℕ) → IsBytes bytes → IsPartial limit bytes ⊎ (IsTooLong limit bytes ⊎ IsFirst limit (take (length_field bytes) (drop 4 bytes)) bytes)
+front_of limit bytes small =
+    let n : ℕ = length_field bytes in
+    elim (cases_lt (length bytes) 4) [
+      | inl few ↦ inl (inl few)
+      | inr header ↦ elim (cases_lt limit n) [
+        | inl above ↦ inr (inl (record { whole = header; above = above }))
+        | inr within ↦ elim (cases_lt (length bytes) (4 + n)) [
+          | inl fewer ↦ inl (inr (within, fewer))
+          | inr whole ↦
+              let P : ℕ → Type 0 = λ m. IsFirst limit (take m (drop 4 bytes)) bytes in
+              let count : 4 + n - 4 ≡ n = omega arith in
+              inr (inr (subst P count (frame_at limit bytes n (spelled_at bytes n header small refl) within whole).1))
+        ]
+      ]
+    ]

@@ -1,0 +1,6 @@
+use Rattle.message_codec.proofs.Readers.{all-IsBytes}
+use Rattle.message_codec.proofs.SpelledOrRefused as law
+use Rattle.message_codec.proofs.laws.spelled_or_refused.Goals as goal
+
+pub returns : goal.returns
+returns c from body bytes short = law.spelled_or_refused from body (all-IsBytes body bytes)
