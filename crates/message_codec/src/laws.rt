@@ -1,6 +1,6 @@
 //! Laws of spelling on which other crates rest. The calls do nothing: their contracts are the laws.
 
-ghost use Rattle.std.specs.Prelude.{◌≡◌, ◌<◌, ◌^◌, ◌⊎◌, List, length, ℕ, Result, IfOk, IfErr};
+ghost use Rattle.std.specs.Prelude.{◌≡◌, ◌⊎◌, List, ℕ, Result, IfOk, IfErr};
 ghost use Rattle.message_codec.specs.declared.messages.End.{End};
 ghost use Rattle.message_codec.specs.declared.messages.Msg.{Msg};
 ghost use Rattle.message_codec.specs.declared.faults.BadBody.{BadBody};
@@ -32,9 +32,9 @@ pub fn spelled_is_decoded()
     ensures { (from : End) (m : Msg) (body : List ℕ) (answer : Result Msg DecodeFault) → Spells from m body → IfOk answer (λ n. Spells from n body) → IfErr answer (λ fault. RefusedFor fault from body) → IsDecoded m answer }
 {}
 
-/// A body of at most 4,294,967,295 bytes spells a message of an end, or it is refused for a fault.
+/// Each body spells a message of an end, or it is refused for a fault.
 pub fn spelled_or_refused()
-    ensures { (from : End) (body : List ℕ) → AreBytes body → length body < 2 ^ 32 → ((m : Msg) × Spells from m body) ⊎ ((why : BadBody) × Refuses why from body) }
+    ensures { (from : End) (body : List ℕ) → AreBytes body → ((m : Msg) × Spells from m body) ⊎ ((why : BadBody) × Refuses why from body) }
 {}
 
 /// A reader comes to a verdict on each stream.
