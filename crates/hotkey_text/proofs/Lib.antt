@@ -2,6 +2,7 @@ pub mod ActionLists
 pub mod ActionsAgain
 pub mod ArgumentBytes
 pub mod ChordsAgain
+pub mod HotkeyWords
 pub mod KeysAgain
 pub mod LineBytes
 pub mod LinesAgain
