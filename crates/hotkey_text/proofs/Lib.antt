@@ -8,5 +8,8 @@ pub mod LineBytes
 pub mod LinesAgain
 pub mod ListsAgain
 pub mod ModSteps
+pub mod SpelledBrackets
+pub mod SpelledHotkeys
+pub mod SpelledLists
 pub mod SpelledWords
 pub mod WordsFound
