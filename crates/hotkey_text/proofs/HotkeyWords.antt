@@ -30,12 +30,12 @@ pub or_left_takes : {A : Type 0} (o : Option A) (left : ℕ) (x : A) → or_left
 or_left_takes None left x h = absurd cc
 or_left_takes (Some y) left x h = cc
 
-pub some_is : {A : Type 0} (o : Option A) → is_some o ≡ true → (x : A) × (o ≡ Some x)
+some_is : {A : Type 0} (o : Option A) → is_some o ≡ true → (x : A) × (o ≡ Some x)
 some_is None h = absurd cc
 some_is (Some x) h = (x, refl)
 
 -- a list that begins with the byte
-pub begins_is : (c : ℕ) (xs : List ℕ) → begins c xs ≡ true → (rest : List ℕ) × (xs ≡ c ∷ rest)
+begins_is : (c : ℕ) (xs : List ℕ) → begins c xs ≡ true → (rest : List ℕ) × (xs ≡ c ∷ rest)
 begins_is c [] h = absurd cc
 begins_is c (b ∷ bs) h = (bs, ap (λ n. n ∷ bs) (eqb-true b c h))
 

@@ -2,6 +2,7 @@ pub mod ActionLists
 pub mod ActionsAgain
 pub mod ArgumentBytes
 pub mod ChordsAgain
+pub mod Fronts
 pub mod HotkeyWords
 pub mod KeysAgain
 pub mod LineBytes
@@ -12,4 +13,8 @@ pub mod SpelledBrackets
 pub mod SpelledHotkeys
 pub mod SpelledLists
 pub mod SpelledWords
+pub mod StopsActions
+pub mod StopsBothLists
+pub mod StopsHotkeys
+pub mod StopsLists
 pub mod WordsFound

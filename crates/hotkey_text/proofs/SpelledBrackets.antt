@@ -11,11 +11,11 @@ use Rattle.hotkey_text.specs.Shapes.{argument_at}
 use Rattle.hotkey_text.specs.Spelling.{SpellsBrackets}
 
 -- a text without blanks in front has none in front of its own front
-tight_front : (a b : List ℕ) → is_tight (a ++ b) ≡ true → is_tight a ≡ true
+pub tight_front : (a b : List ℕ) → is_tight (a ++ b) ≡ true → is_tight a ≡ true
 tight_front [] b h = refl
 tight_front (x ∷ xs) b h = h
 
-pub tight_closed : (a b : List ℕ) → is_tight a ≡ true → is_tight b ≡ true → is_tight (a ++ b) ≡ true
+tight_closed : (a b : List ℕ) → is_tight a ≡ true → is_tight b ≡ true → is_tight (a ++ b) ≡ true
 tight_closed [] b h k = k
 tight_closed (x ∷ xs) b h k = h
 

@@ -28,13 +28,13 @@ press_then true xs y e h =
     subst (λ (p : List ActionForm × List ℕ). Press xs p.0 p.1) same (record { spelled = refl; first = inl refl })
 press_then false xs y e h = record { spelled = list_takes xs y h; first = inr e }
 
-pub press_takes : (xs : List ℕ) (y : List ActionForm × List ℕ) → press_at xs ≡ Ok y → Press xs y.0 y.1
+press_takes : (xs : List ℕ) (y : List ActionForm × List ℕ) → press_at xs ≡ Ok y → Press xs y.0 y.1
 unfolding press_at
 press_takes xs y h = press_then (begins 59 xs) xs y refl h
 
 -- ---- the release list
 
-pub release_takes : (xs : List ℕ) (y : Bool × List ActionForm) → release_at xs ≡ Ok y → SpellsRelease xs y.0 y.1
+release_takes : (xs : List ℕ) (y : Bool × List ActionForm) → release_at xs ≡ Ok y → SpellsRelease xs y.0 y.1
 unfolding release_at
 release_takes [] y h =
     let made : Bool × List ActionForm = (false, []) in
@@ -63,20 +63,37 @@ pub record Second (xs : List ℕ) : Type 0 where
   pub tight : is_tight xs ≡ true
   pub no_comma : begins 44 xs ≡ false
 
-pub second_is : (xs : List ℕ) (released : Bool) (release : List ActionForm) → SpellsRelease xs released release → Second xs
+second_is : (xs : List ℕ) (released : Bool) (release : List ActionForm) → SpellsRelease xs released release → Second xs
 second_is xs false release s = record { tight = ap is_tight s.0; no_comma = ap (begins 44) s.0 }
 second_is xs true release s = record { tight = ap is_tight s.2; no_comma = ap (begins 44) s.2 }
 
-pub press_again : (xs : List ℕ) (press : List ActionForm) (second : List ℕ) (released : Bool) (release : List ActionForm) → Press xs press second → SpellsRelease second released release
-    → press_at xs ≡ Ok (press, second)
-unfolding press_at list_at
-press_again xs [] second false release p r = ap press_at (p.spelled ∙ r.0) ∙ ap (λ (t : List ℕ). Ok ([], t)) (sym r.0)
-press_again xs [] second true release p r = ap press_at (p.spelled ∙ r.2) ∙ ap (λ (t : List ℕ). Ok ([], t)) (sym r.2)
-press_again xs (a ∷ others) second released release p r =
-    let s = p.spelled in
-    let end = second_is second released release r in
-    let other : begins 59 xs ≡ false = elim p.first [ inl e ↦ absurd cc | inr e ↦ e ] in
+pub press_actions : (xs : List ℕ) (a : ActionForm) (others : List ActionForm) (second : List ℕ) → SpellsList xs (a ∷ others) second → begins 59 xs ≡ false → Second second
+    → press_at xs ≡ Ok (a ∷ others, second)
+unfolding press_at
+press_actions xs a others second s other end =
     rw other (list_there xs (action_there xs a s.0 s.1) ∙ actions_again xs a others second s end.tight end.no_comma)
+
+no_sign_first : (xs : List ℕ) (a : ActionForm) (others : List ActionForm) (rest : List ℕ) → Press xs (a ∷ others) rest → begins 59 xs ≡ false
+no_sign_first xs a others rest p = elim p.first [ inl e ↦ absurd cc | inr e ↦ e ]
+
+-- the line ends behind the list
+press_alone : (xs : List ℕ) (press : List ActionForm) → Press xs press [] → press_at xs ≡ Ok (press, [])
+unfolding press_at list_at
+press_alone xs [] p = ap press_at p.spelled
+press_alone xs (a ∷ others) p = press_actions xs a others [] p.spelled (no_sign_first xs a others [] p) (record { tight = refl; no_comma = refl })
+
+-- a ; stands behind the list
+pub press_signed : (xs : List ℕ) (press : List ActionForm) (tail : List ℕ) → Press xs press (59 ∷ tail) → press_at xs ≡ Ok (press, 59 ∷ tail)
+unfolding press_at
+press_signed xs [] tail p = ap press_at p.spelled
+press_signed xs (a ∷ others) tail p = press_actions xs a others (59 ∷ tail) p.spelled (no_sign_first xs a others (59 ∷ tail) p) (record { tight = refl; no_comma = refl })
+
+press_again : (xs : List ℕ) (press : List ActionForm) (second : List ℕ) (released : Bool) (release : List ActionForm) → Press xs press second → SpellsRelease second released release
+    → press_at xs ≡ Ok (press, second)
+press_again xs press second false release p r =
+    subst (λ (t : List ℕ). press_at xs ≡ Ok (press, t)) (sym r.0) (press_alone xs press (subst (Press xs press) r.0 p))
+press_again xs press second true release p r =
+    subst (λ (t : List ℕ). press_at xs ≡ Ok (press, t)) (sym r.2) (press_signed xs press (r.0 ++ r.1) (subst (Press xs press) r.2 p))
 
 -- ---- the line
 

@@ -56,7 +56,7 @@ action_again xs a rest s t =
     let word = word_gap_again (takes kind.Action) a.word.text s.behind_word s.brackets s.word s.gap breaks (ap is_tight s.argument.text) in
     rw (e, word, argument_again s.brackets a.argument rest s.argument t) (rw (← e, ← p) refl)
 
-pub action_tight : (xs : List ℕ) (a : ActionForm) (rest : List ℕ) → SpellsAction xs a rest → is_tight xs ≡ true
+action_tight : (xs : List ℕ) (a : ActionForm) (rest : List ℕ) → SpellsAction xs a rest → is_tight xs ≡ true
 action_tight xs a rest s = ap is_tight s.text ∙ word_tight kind.Action refl a.word.text (s.behind_word ++ s.brackets) s.word
 
 word_there : (p : ℕ → Bool) (w rest : List ℕ) → IsWord p w → is_empty (w ++ rest) ≡ false
@@ -146,7 +146,7 @@ unfolding list_at
 list_there [] h = absurd cc
 list_there (b ∷ bs) h = refl
 
-pub actions_spelled : (xs : List ℕ) (actions : List ActionForm) (rest : List ℕ) → Actions xs actions rest → SpellsList xs actions rest
+actions_spelled : (xs : List ℕ) (actions : List ActionForm) (rest : List ℕ) → Actions xs actions rest → SpellsList xs actions rest
 actions_spelled xs actions rest a = subst (λ (t : List ActionForm). SpellsList xs t rest) (sym a.are) a.spelled
 
 pub list_takes : (xs : List ℕ) (y : List ActionForm × List ℕ) → list_at xs ≡ Ok y → SpellsList xs y.0 y.1
