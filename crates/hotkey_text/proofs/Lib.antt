@@ -6,6 +6,8 @@ pub mod EnoughTurns
 pub mod FaultsFromTheLeft
 pub mod FirstFaults
 pub mod FreeClasses
+pub mod Fronts
+pub mod HotkeyWords
 pub mod KeysAgain
 pub mod LineBytes
 pub mod LinesAgain
@@ -13,11 +15,18 @@ pub mod ListsAgain
 pub mod ModSteps
 pub mod SpelledActions
 pub mod SpelledArguments
+pub mod SpelledBrackets
 pub mod SpelledChordWords
 pub mod SpelledChords
+pub mod SpelledHotkeys
+pub mod SpelledLists
 pub mod SpelledMods
 pub mod SpelledTriggers
 pub mod SpelledWords
+pub mod StopsActions
+pub mod StopsBothLists
+pub mod StopsHotkeys
+pub mod StopsLists
 pub mod WordSteps
 pub mod WordsAbove
 pub mod WordsFound

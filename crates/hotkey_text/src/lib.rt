@@ -42,6 +42,7 @@ pub use names::{Deed, TriggerKind};
 pub use printing::{between, put_action, put_trigger};
 pub use shapes::{HotkeyForm, hotkey, is_hotkey};
 pub use spelling_laws::{
-    actions_are_spelled, chord_words_are_spelled, hotkeys_are_spelled, hotkeys_begin_with_their_word,
-    hotkeys_stop_where_they_cannot_go_on, six_turns_are_enough, triggers_are_spelled,
+    actions_are_spelled, chord_words_are_spelled, hotkeys_are_spelled,
+    hotkeys_begin_with_their_word, hotkeys_stop_where_they_cannot_go_on, six_turns_are_enough,
+    triggers_are_spelled,
 };
