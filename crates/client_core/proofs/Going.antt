@@ -9,6 +9,7 @@ use Rattle.wire_frames.specs.Framers.{FramerParts, fed, begun}
 use Rattle.message_codec.specs.declared.messages.Msg.{Msg}
 use Rattle.message_codec.specs.Streams.{body_limit, frame_of, frames_of, IsGood}
 use Rattle.message_codec.specs.Verdicts.{IsRefused, IsBad}
+use Rattle.message_codec.proofs.FramesOf.{frames-last, length-frames_of}
 use Rattle.message_codec.proofs.OneVerdict.{all_good-append}
 use Rattle.share_base.specs.declared.reason.Reason.{Reason}
 use Rattle.share_base.specs.declared.reason.Reason.TheVariants as reason
@@ -27,12 +28,6 @@ use Rattle.client_core.specs.Taking.{TakesOne, ShowsOn}
 use Rattle.client_core.proofs.Screens.{client-more}
 
 -- ---- streams
-
-frames-last : (ms : List Msg) (m : Msg) → frames_of (ms ++ m ∷ []) ≡ frames_of ms ++ frame_of m
-frames-last ms m = flat_map-append frame_of ms (m ∷ []) ∙ ap (λ (t : List ℕ). frames_of ms ++ t) (append-nil (frame_of m))
-
-length-frames_of : (ms : List Msg) (m : Msg) → length (frames_of (ms ++ m ∷ [])) ≡ length (frames_of ms) + length (frame_of m)
-length-frames_of ms m = ap length (frames-last ms m) ∙ length-append (frames_of ms) (frame_of m)
 
 all-last : {A : Type 0} (P : A → Type 0) (xs : List A) (x : A) → AllByRecursion P xs → P x → AllByRecursion P (xs ++ x ∷ [])
 all-last P [] x h p = (p, tt)

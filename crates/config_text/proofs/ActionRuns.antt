@@ -70,7 +70,7 @@ none_read c forms = none_before (actions_of c forms) where
 
 -- ---- what a text spells
 
-words_judged : {A : Type 0} (r : Result A HotkeyFault) (a : A) → judged_words r ≡ Ok a → r ≡ Ok a
+pub words_judged : {A : Type 0} (r : Result A HotkeyFault) (a : A) → judged_words r ≡ Ok a → r ≡ Ok a
 words_judged (Ok x) a e = let same : x ≡ a = cc in ap (λ y. Ok y) same
 words_judged (Err f) a e = absurd cc
 

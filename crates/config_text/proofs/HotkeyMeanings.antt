@@ -11,6 +11,7 @@ use Rattle.hotkey_text.specs.Arguments as words
 use Rattle.hotkey_text.proofs.SpelledActions.{action_takes, action_read}
 use Rattle.hotkey_text.proofs.SpelledTriggers.{trigger_takes, trigger_read}
 use Rattle.hotkey_text.proofs.SpelledWords.{went}
+use Rattle.config_text.proofs.ActionRuns.{words_judged}
 use Rattle.config_text.specs.declared.faults.ConfigKind.{ConfigKind}
 use Rattle.config_text.specs.declared.faults.ConfigKind.TheVariants as kind
 use Rattle.config_text.specs.declared.faults.Fault.{Fault}
@@ -32,10 +33,6 @@ none_further (Some left) u e = absurd cc
 holds : (b : Bool) (k : ConfigKind) (left : ℕ) (u : Unit {0}) → unless b k left ≡ Ok u → b ≡ true
 holds true k left u e = refl
 holds false k left u e = absurd cc
-
-words_taken : {A : Type 0} (r : Result A HotkeyFault) (x : A) → judged_words r ≡ Ok x → r ≡ Ok x
-words_taken (Ok y) x e = let same : y ≡ x = cc in ap (λ z. Ok z) same
-words_taken (Err f) x e = absurd cc
 
 -- ---- words
 
@@ -64,7 +61,7 @@ action_means : (c : Configuration) (form : ActionForm) (a : Action) → action_o
 unfolding action_of
 action_means c form a e =
     let text = went (judged_words (words.action_of form)) (λ text. meant c text) a e in
-    (text.0, action_takes form text.0 (words_taken (words.action_of form) text.0 text.1), meant_means c text.0 a text.2)
+    (text.0, action_takes form text.0 (words_judged (words.action_of form) text.0 text.1), meant_means c text.0 a text.2)
 
 means_action : (c : Configuration) (form : ActionForm) (a : Action) → MeansAction c form a → action_of c form ≡ Ok a
 unfolding action_of
@@ -98,7 +95,7 @@ hotkey_means whole c more line e =
       trigger = t.0;
       press = press.0;
       release = release.0;
-      spelled = trigger_takes line t.0 (words_taken (words.trigger_of line) t.0 t.1);
+      spelled = trigger_takes line t.0 (words_judged (words.trigger_of line) t.0 t.1);
       pressed = actions_mean c line.press press.0 press.1;
       released = actions_mean c line.release release.0 release.1;
       room = holds (has_room c.hotkeys (press.0 ++ release.0)) kind.TooMany whole room.0 room.1;

@@ -17,7 +17,7 @@ use Rattle.screen_links.specs.Ranges.{IsGood}
 use Rattle.text_lines.specs.declared.bytes.WordKind.TheVariants as kind
 use Rattle.text_lines.specs.Bytes.{takes, is_tight, unblanked}
 use Rattle.text_lines.specs.Reading.{is_empty, sign_at}
-use Rattle.text_lines.proofs.CleanWords.{is_plain, IsClean, clean_around, clean_solid}
+use Rattle.text_lines.proofs.CleanWords.{is_plain, IsClean, clean_around, clean_solid, tight_front}
 use Rattle.text_lines.proofs.WordsAgain.{word_again, text_of}
 use Rattle.config_text.specs.Shapes.{LinkText, link_at}
 use Rattle.config_text.specs.Sections.{is_header}
@@ -72,10 +72,6 @@ stops_by false p r rest b e = rw b refl
 stops : (p : ℕ → Bool) (r : Range) (rest : List ℕ) → p 40 ≡ false → prefix_len p rest ≡ 0 → prefix_len p (range_text r ++ rest) ≡ 0
 stops p r rest b e = ap (prefix_len p) (range_text_is r rest) ∙ stops_by (is_whole r) p r rest b e
 
-tight_by : (name rest : List ℕ) → 0 < length name → is_tight name ≡ true → is_tight (name ++ rest) ≡ true
-tight_by [] rest h t = absurd (omega arith)
-tight_by (x ∷ xs) rest h t = t
-
 abbrev pub link_read : Side → Range → List ℕ → Range → LinkText
 link_read side range name onto = record {
   side = side;
@@ -92,7 +88,7 @@ link_at_again side range name onto good named good_onto =
     let clean = clean_name name named in
     let word = word_again (takes kind.Side) (side_text side) (range_text range ++ from_sign name onto) (side_some side) (side_takes side) (stops (takes kind.Side) range (from_sign name onto) refl refl) in
     let source = range_again range (from_sign name onto) good refl in
-    let unblank : unblanked (from_name name onto) ≡ from_name name onto = tight_whole (from_name name onto) (tight_by name (range_text onto ++ []) clean.some clean.tight) in
+    let unblank : unblanked (from_name name onto) ≡ from_name name onto = tight_whole (from_name name onto) (tight_front name (range_text onto ++ []) clean.some clean.tight) in
     let target_name = word_again (takes kind.Name) name (range_text onto ++ []) (name_some name named) (name_takes name named) (stops (takes kind.Name) onto [] refl refl) in
     let target = range_again onto [] good_onto refl in
     ap link_at (words_are side range name onto) ∙ rw (word, side_found side, source, unblank, target_name, target) refl

@@ -5,12 +5,13 @@ use Rattle.std.specs.Str.{bytes_eq}
 use Rattle.std.proofs.lemmas.Slice.Eq.{bytes_eq-Decides}
 use Rattle.share_base.specs.declared.shape.Side.{Side}
 use Rattle.share_base.specs.declared.shape.Side.TheVariants as side
+use Rattle.share_base.proofs.ListTests.{found_passes}
 use Rattle.share_base.proofs.SideWords.{side_found}
 use Rattle.text_lines.specs.declared.bytes.WordKind.TheVariants as kind
 use Rattle.text_lines.specs.Bytes.{takes, is_tight, unblanked}
 use Rattle.text_lines.specs.Reading.{Text, word_at, sign_at, end_at, or_left}
 use Rattle.text_lines.specs.Spelling.{IsWord}
-use Rattle.text_lines.proofs.SpelledWords.{on_ok, Sign, Word, Breaks, word_takes, word_again, sign_takes, sign_again, gap_breaks, gap_ends, word_tight, end_takes}
+use Rattle.text_lines.proofs.SpelledWords.{on_ok, or_left_takes, Sign, Word, Breaks, word_takes, word_again, sign_takes, sign_again, gap_breaks, gap_ends, word_tight, end_takes}
 use Rattle.share_base.specs.Sides.{side_text, sides, side_named}
 use Rattle.config_text.specs.Shapes.{RangeText, LinkText, maybe_range_at, link_at}
 use Rattle.config_text.specs.SpellingLinks.{SpellsMaybe, SpellsTarget, SpellsLink}
@@ -18,22 +19,10 @@ use Rattle.config_text.proofs.SpelledRanges.{MaybeThen, maybe_takes, maybe_again
 
 -- ---- sides
 
-found_then : {A : Type 0} (t : Bool) (p : A → Bool) (y : A) (ys : List A) (x : A) → p y ≡ t → (find p ys ≡ Some x → p x ≡ true) → cond t (Some y) (find p ys) ≡ Some x → p x ≡ true
-found_then true p y ys x e go h = let same : y ≡ x = cc in ap p (sym same) ∙ e
-found_then false p y ys x e go h = go h
-
-found_passes : {A : Type 0} (p : A → Bool) (ys : List A) (x : A) → find p ys ≡ Some x → p x ≡ true
-found_passes p [] x h = absurd cc
-found_passes p (y ∷ ys) x h = found_then (p y) p y ys x refl (found_passes p ys x) h
-
 pub side_takes : (word : List ℕ) (s : Side) → side_named word ≡ Some s → word ≡ side_text s
 side_takes word s h = sym ((bytes_eq-Decides (side_text s) word).0 (found_passes (λ x. bytes_eq (side_text x) word) sides s h))
 
 -- ---- links
-
-pub or_left_takes : {A : Type 0} (o : Option A) (left : ℕ) (x : A) → or_left o left ≡ Ok x → o ≡ Some x
-or_left_takes None left x h = absurd cc
-or_left_takes (Some y) left x h = cc
 
 target_made : (xs : List ℕ) (name : Text × List ℕ) (m : Option RangeText × List ℕ) → Word (takes kind.Name) xs name → MaybeThen name.1 m → m.1 ≡ [] → SpellsTarget xs name.0 m.0
 target_made xs name m w t e =

@@ -5,12 +5,12 @@ use Rattle.text_lines.specs.declared.bytes.WordKind.TheVariants as kind
 use Rattle.text_lines.specs.Bytes.{takes, front}
 use Rattle.text_lines.specs.Reading.{◌>>=◌, Text, run_at, word_at, sign_at, or_left, is_empty}
 use Rattle.text_lines.specs.Spelling.{StopsAt}
-use Rattle.text_lines.proofs.SpelledWords.{on_err, Sign, NoSign, word_takes, sign_takes, sign_again, sign_stops, no_sign}
+use Rattle.text_lines.proofs.SpelledWords.{on_err, or_left_takes, Sign, NoSign, word_takes, sign_takes, sign_again, sign_stops, no_sign}
 use Rattle.text_lines.proofs.Stopping.{never_read}
 use Rattle.share_base.specs.Sides.{side_named}
 use Rattle.config_text.specs.Shapes.{LinkText, maybe_range_at, link_at}
 use Rattle.config_text.specs.SpellingLinks.{SpellsLink, IsLink, side_first}
-use Rattle.config_text.proofs.SpelledLinks.{side_takes, or_left_takes, link_again}
+use Rattle.config_text.proofs.SpelledLinks.{side_takes, link_again}
 use Rattle.config_text.proofs.SpelledRanges.{maybe_cases, maybe_stops}
 use Rattle.config_text.proofs.Stops.{solid_next}
 use Rattle.config_text.proofs.StopsRanges.{range_stops}

@@ -7,6 +7,7 @@ use Rattle.std.specs.List.{prefix_len}
 use Rattle.text_lines.specs.Bytes.{is_blank, unblanked, front, behind, takes}
 use Rattle.text_lines.specs.declared.bytes.WordKind.TheVariants as word_kind
 use Rattle.text_lines.specs.Reading.{Read, ◌>>=◌, Text, is_empty, run_at, word_at, sign_at, maybe_sign_at}
+use Rattle.text_lines.proofs.SpelledWords.{on_ok}
 use Rattle.hotkey_text.specs.Shapes.{ActionForm, argument_at, action_at, with_first, and_more, actions_within, actions_at, has_some}
 use Rattle.hotkey_text.specs.Lists.{is_formed, read_actions, actions_from, behind_of}
 
@@ -51,11 +52,6 @@ pub word_shorter : (p : ℕ → Bool) (xs : List ℕ) (w : Text × List ℕ) →
 unfolding word_at
 word_shorter p xs w e = word_by (is_empty (front p xs)) p xs (length xs) w e
 
--- steps that went well went well one by one
-through : {A B P : Type 0} (r : Result A ℕ) (f : A → Result B ℕ) (y : B) → (r >>= f) ≡ Ok y → ((a : A) → r ≡ Ok a → f a ≡ Ok y → P) → P
-through (Ok a) f y e then_so = then_so a refl e
-through (Err left) f y e then_so = absurd cc
-
 abbrev rest_or : {A : Type 0} → Read A → List ℕ → List ℕ
 rest_or (Ok r) other = r.1
 rest_or (Err left) other = other
@@ -63,16 +59,16 @@ rest_or (Err left) other = other
 pub argument_shorter : (xs : List ℕ) (a : List ℕ × List ℕ) → argument_at xs ≡ Ok a → length a.1 < length xs
 unfolding argument_at
 argument_shorter xs a e =
-    through (sign_at 40 xs) _ a e (λ argument opens e'.
-    through (sign_at 41 (behind (takes word_kind.Argument) argument)) _ a e' (λ rest closes e''.
+    on_ok (sign_at 40 xs) _ a e (λ argument opens e'.
+    on_ok (sign_at 41 (behind (takes word_kind.Argument) argument)) _ a e' (λ rest closes e''.
     let same : rest ≡ a.1 = ap (λ (r : Read (List ℕ)). rest_or r rest) e'' in
     omega (arith, ap length same, sign_shorter 40 xs argument opens, sign_shorter 41 _ rest closes, behind_shorter (takes word_kind.Argument) argument)))
 
 pub action_shorter : (xs : List ℕ) (a : ActionForm × List ℕ) → action_at xs ≡ Ok a → length a.1 < length xs
 unfolding action_at
 action_shorter xs a e =
-    through (word_at (takes word_kind.Action) xs) _ a e (λ word begins e'.
-    through (argument_at word.1) _ a e' (λ argument closes e''.
+    on_ok (word_at (takes word_kind.Action) xs) _ a e (λ word begins e'.
+    on_ok (argument_at word.1) _ a e' (λ argument closes e''.
     let same : argument.1 ≡ a.1 = ap (λ (r : Read ActionForm). rest_or r argument.1) e'' in
     omega (arith, ap length same, word_shorter (takes word_kind.Action) xs word begins, argument_shorter word.1 argument closes)))
 

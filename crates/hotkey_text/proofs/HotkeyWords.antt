@@ -8,6 +8,7 @@ use Rattle.text_lines.specs.declared.bytes.WordKind.TheVariants as kind
 use Rattle.text_lines.specs.Bytes.{takes}
 use Rattle.text_lines.specs.Reading.{Text, run_at, begins, or_left}
 use Rattle.text_lines.specs.Spelling.{IsWord}
+use Rattle.text_lines.proofs.MaybeSigns.{begun}
 use Rattle.text_lines.proofs.SpelledWords.{Run, run_takes, front_again, behind_again, gap_again, gap_breaks}
 use Rattle.hotkey_rules.proofs.FirstFound.{found_listed}
 use Rattle.hotkey_text.specs.declared.names.TriggerKind.{TriggerKind}
@@ -26,24 +27,15 @@ pub trigger_is_word : (k : TriggerKind) → IsWord (takes kind.Key) (trigger_wor
 trigger_is_word trigger.Key = (omega arith, refl)
 trigger_is_word trigger.Mouse = (omega arith, refl)
 
-pub or_left_takes : {A : Type 0} (o : Option A) (left : ℕ) (x : A) → or_left o left ≡ Ok x → o ≡ Some x
-or_left_takes None left x h = absurd cc
-or_left_takes (Some y) left x h = cc
-
 some_is : {A : Type 0} (o : Option A) → is_some o ≡ true → (x : A) × (o ≡ Some x)
 some_is None h = absurd cc
 some_is (Some x) h = (x, refl)
 
--- a list that begins with the byte
-begins_is : (c : ℕ) (xs : List ℕ) → begins c xs ≡ true → (rest : List ℕ) × (xs ≡ c ∷ rest)
-begins_is c [] h = absurd cc
-begins_is c (b ∷ bs) h = (bs, ap (λ n. n ∷ bs) (eqb-true b c h))
-
-begun : (xs : List ℕ) (word : Text × List ℕ) → Run (takes kind.Key) xs word → (is_some (trigger_named word.0.text) && begins 40 word.1) ≡ true → BeginsHotkey xs
-begun xs word r h =
+begins_by : (xs : List ℕ) (word : Text × List ℕ) → Run (takes kind.Key) xs word → (is_some (trigger_named word.0.text) && begins 40 word.1) ≡ true → BeginsHotkey xs
+begins_by xs word r h =
     let parts = and_parts (is_some (trigger_named word.0.text)) (begins 40 word.1) h in
     let found = some_is (trigger_named word.0.text) parts.0 in
-    let opens = begins_is 40 word.1 parts.1 in
+    let opens = begun 40 word.1 parts.1 in
     record {
       of = found.0;
       behind_word = r.gap.gap;
@@ -54,7 +46,7 @@ begun xs word r h =
     }
 
 pub hotkey_begins : (xs : List ℕ) → is_hotkey xs ≡ true → BeginsHotkey xs
-hotkey_begins xs h = begun xs (run_at (takes kind.Key) xs) (run_takes (takes kind.Key) xs) h
+hotkey_begins xs h = begins_by xs (run_at (takes kind.Key) xs) (run_takes (takes kind.Key) xs) h
 
 pub hotkey_taken : (xs : List ℕ) → BeginsHotkey xs → is_hotkey xs ≡ true
 hotkey_taken xs b =

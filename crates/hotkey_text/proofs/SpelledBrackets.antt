@@ -63,34 +63,3 @@ argument_again xs argument rest b t =
     let tight : is_tight argument ≡ true = ap is_tight b.closes ∙ tight_closed b.inside tail b.tight refl in
     let inside : behind (takes kind.Argument) argument ≡ tail = ap (behind (takes kind.Argument)) b.closes ∙ behind_again (takes kind.Argument) b.inside tail b.run refl in
     rw (e, sign_again 40 b.behind_open argument b.gaps.0 tight, inside, sign_again 41 b.behind_close rest b.gaps.1 t) refl
-
--- ---- a sign that may stand there
-
-maybe_then : (t : Bool) (b c : ℕ) (bs rest : List ℕ) → (b == c) ≡ t → cond t (Some (unblanked bs)) None ≡ Some rest → Sign c (b ∷ bs) rest
-maybe_then true b c bs rest e h =
-    let same : unblanked bs ≡ rest = cc in
-    record { tail = bs; parts = ap (λ n. n ∷ bs) (eqb-true b c e); gap = subst (λ (r : List ℕ). Gap bs r) same (gap_of bs) }
-maybe_then false b c bs rest e h = absurd cc
-
-pub maybe_takes : (c : ℕ) (xs rest : List ℕ) → maybe_sign_at c xs ≡ Some rest → Sign c xs rest
-unfolding maybe_sign_at
-maybe_takes c [] rest h = absurd cc
-maybe_takes c (b ∷ bs) rest h = maybe_then (b == c) b c bs rest refl h
-
-none_then : (t : Bool) (bs : List ℕ) → cond t (Some (unblanked bs)) None ≡ None → t ≡ false
-none_then true bs h = absurd cc
-none_then false bs h = refl
-
-pub maybe_other : (c : ℕ) (xs : List ℕ) → maybe_sign_at c xs ≡ None → begins c xs ≡ false
-unfolding maybe_sign_at
-maybe_other c [] h = refl
-maybe_other c (b ∷ bs) h = none_then (b == c) bs h
-
-pub other_maybe : (c : ℕ) (xs : List ℕ) → begins c xs ≡ false → maybe_sign_at c xs ≡ None
-unfolding maybe_sign_at
-other_maybe c [] h = refl
-other_maybe c (b ∷ bs) h = rw h refl
-
-pub maybe_again : (c : ℕ) (gap rest : List ℕ) → IsGap gap → is_tight rest ≡ true → maybe_sign_at c (c ∷ (gap ++ rest)) ≡ Some rest
-unfolding maybe_sign_at
-maybe_again c gap rest h t = rw (eq-eqb c c refl, gap_again gap rest h t) refl

@@ -3,14 +3,14 @@ use Rattle.std.proofs.Common.{◌≡◌, ℕ, Bool, true, false, cond, List, [],
 use Rattle.text_lines.specs.declared.bytes.WordKind.TheVariants as kind
 use Rattle.text_lines.specs.Bytes.{takes, is_tight}
 use Rattle.text_lines.specs.Reading.{Text, word_at, sign_at, end_at, begins, or_left}
-use Rattle.text_lines.proofs.SpelledWords.{on_ok, Word, Sign, word_takes, sign_takes, sign_again, end_takes, gap_breaks, Breaks}
+use Rattle.text_lines.proofs.SpelledWords.{or_left_takes, on_ok, Word, Sign, word_takes, sign_takes, sign_again, end_takes, gap_breaks, Breaks}
 use Rattle.text_lines.proofs.Stopping.{word_gap_again}
 use Rattle.hotkey_text.specs.declared.names.TriggerKind.{TriggerKind}
 use Rattle.hotkey_text.specs.Names.{trigger_word, trigger_named}
 use Rattle.hotkey_text.specs.Shapes.{ActionForm, HotkeyForm, argument_at, list_at, press_at, release_at, hotkey_at}
 use Rattle.hotkey_text.specs.Spelling.{SpellsBrackets, SpellsList, SpellsRelease, SpellsHotkey}
 use Rattle.hotkey_text.proofs.ActionsAgain.{trigger_known}
-use Rattle.hotkey_text.proofs.HotkeyWords.{trigger_takes, trigger_is_word, or_left_takes}
+use Rattle.hotkey_text.proofs.HotkeyWords.{trigger_takes, trigger_is_word}
 use Rattle.hotkey_text.proofs.SpelledBrackets.{Argument, argument_takes, argument_again}
 use Rattle.hotkey_text.proofs.SpelledLists.{action_there, list_there, list_takes, list_tight, list_again, actions_again}
 

@@ -9,7 +9,8 @@ use Rattle.text_lines.proofs.Stopping.{word_gap_again}
 use Rattle.hotkey_text.specs.Shapes.{ActionForm, argument_at, action_at, with_first, and_more, actions_within, actions_at, list_at}
 use Rattle.hotkey_text.specs.Spelling.{SpellsBrackets, SpellsAction, SpellsFurther, SpellsList}
 use Rattle.hotkey_text.proofs.ActionLists.{one_action}
-use Rattle.hotkey_text.proofs.SpelledBrackets.{Argument, argument_takes, argument_again, maybe_takes, maybe_other, other_maybe, maybe_again}
+use Rattle.text_lines.proofs.MaybeSigns.{maybe_sign_takes, maybe_sign_again, other_there, no_maybe_sign}
+use Rattle.hotkey_text.proofs.SpelledBrackets.{Argument, argument_takes, argument_again}
 
 -- ---- an action
 
@@ -107,12 +108,12 @@ behind_action n xs a None y again s e h =
     let made : List ActionForm × List ℕ = (a.0 ∷ [], a.1) in
     let same : made ≡ y = cc in
     subst (λ (p : List ActionForm × List ℕ). Actions xs p.0 p.1) same
-    (record { first = a.0; others = []; are = refl; spelled = (a.1, s.spelled, refl); tight = s.tight; ends = maybe_other 44 a.1 e })
+    (record { first = a.0; others = []; are = refl; spelled = (a.1, s.spelled, refl); tight = s.tight; ends = other_there 44 a.1 e })
 behind_action n xs a (Some rest) y again s e h =
     on_ok (actions_within n rest) _ y h (λ more m h.
     let made : List ActionForm × List ℕ = (a.0 ∷ more.0, more.1) in
     let same : made ≡ y = cc in
-    subst (λ (p : List ActionForm × List ℕ). Actions xs p.0 p.1) same (with_more xs a.1 rest more a.0 s (maybe_takes 44 a.1 rest e) (again rest more m)))
+    subst (λ (p : List ActionForm × List ℕ). Actions xs p.0 p.1) same (with_more xs a.1 rest more a.0 s (maybe_sign_takes 44 a.1 rest e) (again rest more m)))
 
 within_takes : (n : ℕ) (xs : List ℕ) (y : List ActionForm × List ℕ) → actions_within n xs ≡ Ok y → Actions xs y.0 y.1
 unfolding actions_within
@@ -131,11 +132,11 @@ behind_tight behind (b ∷ others) rest s t = ap is_tight s.text
 pub actions_again : (xs : List ℕ) (a : ActionForm) (others : List ActionForm) (rest : List ℕ) → SpellsList xs (a ∷ others) rest → is_tight rest ≡ true → begins 44 rest ≡ false
     → actions_at xs ≡ Ok (a ∷ others, rest)
 actions_again xs a [] rest s t ends =
-    let none = other_maybe 44 s.0 (ap (begins 44) s.2 ∙ ends) in
+    let none = no_maybe_sign 44 s.0 (ap (begins 44) s.2 ∙ ends) in
     one_action xs (a, s.0) None (action_again xs a s.0 s.1 (behind_tight s.0 [] rest s.2 t)) (sym none) ∙ ap (λ (u : List ℕ). Ok (a ∷ [], u)) s.2
 actions_again xs a (b ∷ others) rest s t ends =
     let n = s.2 in
-    let some : maybe_sign_at 44 s.0 ≡ Some n.here = ap (maybe_sign_at 44) n.text ∙ maybe_again 44 n.behind_comma n.here n.gap (action_tight n.here b n.rest n.action) in
+    let some : maybe_sign_at 44 s.0 ≡ Some n.here = ap (maybe_sign_at 44) n.text ∙ maybe_sign_again 44 n.behind_comma n.here n.gap (action_tight n.here b n.rest n.action) in
     one_action xs (a, s.0) (Some n.here) (action_again xs a s.0 s.1 (behind_tight s.0 (b ∷ others) rest s.2 t)) (sym some)
     ∙ ap (with_first a) (actions_again n.here b others rest (n.rest, n.action, n.others) t ends)
 

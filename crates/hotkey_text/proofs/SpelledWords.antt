@@ -15,6 +15,7 @@ use Rattle.text_lines.specs.declared.bytes.WordKind.TheVariants as word_kind
 use Rattle.text_lines.specs.Bytes.{takes}
 use Rattle.text_lines.specs.Numbers.{digits_from, decimal_of}
 use Rattle.text_lines.specs.Reading.{◌>>=◌, Text, run_at, maybe_sign_at, is_empty}
+use Rattle.text_lines.proofs.DecimalsSpelled.{decimal_within}
 use Rattle.hotkey_rules.specs.KeyNames.{NamedKey, named_keys, key_of_name, row as row_of}
 use Rattle.hotkey_rules.proofs.KeyRows.{named}
 use Rattle.hotkey_rules.specs.declared.trigger.Trigger.{Trigger}
@@ -204,32 +205,6 @@ key_chord_spelled modifiers xs chord e =
 
 -- ---- a button with modifiers
 
-digit_bound : (t u : Bool) (max m : ℕ) (o : Option ℕ) → (u ≡ true → o ≡ Some m → m ≤ max) → cond t (cond u o None) None ≡ Some m → m ≤ max
-digit_bound true true max m o again e = again refl e
-digit_bound true false max m o again e = absurd cc
-digit_bound false u max m o again e = absurd cc
-
-digits_bound : (max n : ℕ) (ds : List ℕ) (m : ℕ) → n ≤ max → digits_from max n ds ≡ Some m → m ≤ max
-unfolding digits_from
-digits_bound max n [] m h e = let same : n ≡ m = cc in omega arith
-digits_bound max n (b ∷ bs) m h e =
-    let next = 10 * n + (b - 48) in
-    digit_bound (is_ascii_digit b) (nat_le next max) max m (digits_from max next bs) (λ within found. digits_bound max next bs m (leb-true next max within) found) e
-
-zero_bound : (u : Bool) (max m : ℕ) → cond u (Some 0) None ≡ Some m → m ≤ max
-zero_bound true max m e = let same : 0 ≡ m = cc in omega arith
-zero_bound false max m e = absurd cc
-
-first_bound : (t : Bool) (max m : ℕ) (one other : Option ℕ) → (one ≡ Some m → m ≤ max) → (other ≡ Some m → m ≤ max) → cond t one other ≡ Some m → m ≤ max
-first_bound true max m one other p q e = p e
-first_bound false max m one other p q e = q e
-
-decimal_bound : (max : ℕ) (ds : List ℕ) (m : ℕ) → decimal_of max ds ≡ Some m → m ≤ max
-unfolding decimal_of
-decimal_bound max [] m e = absurd cc
-decimal_bound max (b ∷ bs) m e =
-    first_bound (b == 48) max m _ (digits_from max 0 (b ∷ bs)) (zero_bound (is_empty bs) max m) (digits_bound max 0 (b ∷ bs) m (omega arith)) e
-
 button_by : (t : Bool) (n : ℕ) (b : MouseButton) → (n == 0) ≡ t → n ≤ 255 → cond t None (Some (button_at n)) ≡ Some b → is_mouse_button b ≡ true
 button_by true n b z h e = absurd cc
 button_by false n b z h e =
@@ -248,7 +223,7 @@ mouse_chord_spelled xs chord e =
     let word = run_at (takes word_kind.Chord) mods.0.1 in
     let b = went (or_fault (button_of (decimal_of 255 word.0.text)) _ word.0.left) _ chord mods.2 in
     let close = went (closed_at word.1) _ chord b.2 in
-    let is = button_is (decimal_of 255 word.0.text) b.0 (decimal_bound 255 word.0.text) (there (button_of (decimal_of 255 word.0.text)) _ word.0.left b.0 b.1) in
+    let is = button_is (decimal_of 255 word.0.text) b.0 (λ n. decimal_within 255 n word.0.text) (there (button_of (decimal_of 255 word.0.text)) _ word.0.left b.0 b.1) in
     let small = mods_kept 6 (mask 0) xs mods.0 (omega arith) mods.1 in
     let given : MouseChord = record { b = b.0; mods = mods.0.0 } in
     let same : given ≡ chord = cc in

@@ -7,7 +7,7 @@ use Rattle.text_lines.proofs.SpelledWords.{on_err, Sign, end_stops}
 use Rattle.hotkey_text.specs.Shapes.{ActionForm, action_at, with_first, and_more, actions_at, list_at}
 use Rattle.hotkey_text.specs.Spelling.{SpellsAction, SpellsList}
 use Rattle.hotkey_text.proofs.ActionLists.{first_and_more, no_action, one_action, action_shorter, maybe_sign_shorter}
-use Rattle.hotkey_text.proofs.SpelledBrackets.{maybe_takes, maybe_again}
+use Rattle.text_lines.proofs.MaybeSigns.{maybe_sign_takes, maybe_sign_again}
 use Rattle.hotkey_text.proofs.SpelledLists.{Actions, action_takes, action_again, actions_take, actions_again, list_there}
 use Rattle.hotkey_text.proofs.Fronts.{next_first, action_front, actions_front, SpellsActions, one_more, flat_sign}
 use Rattle.hotkey_text.proofs.StopsActions.{Halts, action_halts}
@@ -29,7 +29,7 @@ first_halts xs left h =
 
 next_stuck : (xs gap ys : List ℕ) (a : ActionForm) (n : ℕ) → SpellsAction xs a (44 ∷ (gap ++ ys)) → IsGap gap → is_tight ys ≡ true → actions_at ys ≡ Err n → actions_at xs ≡ Err n
 next_stuck xs gap ys a n s g t h =
-    one_action xs (a, 44 ∷ (gap ++ ys)) (Some ys) (action_again xs a (44 ∷ (gap ++ ys)) s refl) (sym (maybe_again 44 gap ys g t)) ∙ ap (with_first a) h
+    one_action xs (a, 44 ∷ (gap ++ ys)) (Some ys) (action_again xs a (44 ∷ (gap ++ ys)) s refl) (sym (maybe_sign_again 44 gap ys g t)) ∙ ap (with_first a) h
 
 -- the list behind a comma can't go on
 next_halts : (xs : List ℕ) (a : ActionForm) (behind rest : List ℕ) (left : ℕ) → SpellsAction xs a behind → Sign 44 behind rest → Halts SpellsActions actions_at rest left → Halts SpellsActions actions_at xs left
@@ -63,7 +63,7 @@ by_comma : (xs : List ℕ) (a : ActionForm × List ℕ) (o : Option (List ℕ)) 
     → ((rest : List ℕ) → o ≡ Some rest → actions_at rest ≡ Err left → Halts SpellsActions actions_at rest left) → and_more actions_at a o ≡ Err left → Halts SpellsActions actions_at xs left
 by_comma xs a None left s e again h = absurd cc
 by_comma xs a (Some rest) left s e again h =
-    on_err (actions_at rest) _ left h (λ k. next_halts xs a.0 a.1 rest left s (maybe_takes 44 a.1 rest e) (again rest refl k)) (λ more m h. absurd cc)
+    on_err (actions_at rest) _ left h (λ k. next_halts xs a.0 a.1 rest left s (maybe_sign_takes 44 a.1 rest e) (again rest refl k)) (λ more m h. absurd cc)
 
 halts_within : (n : ℕ) (xs : List ℕ) (left : ℕ) → length xs ≤ n → actions_at xs ≡ Err left → Halts SpellsActions actions_at xs left
 halts_within zero xs left l h =

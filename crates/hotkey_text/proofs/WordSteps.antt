@@ -8,6 +8,7 @@ use Rattle.text_lines.specs.declared.bytes.WordKind.{WordKind}
 use Rattle.text_lines.specs.Bytes.{takes, behind, is_tight, unblanked}
 use Rattle.text_lines.specs.Reading.{run_at, maybe_sign_at, begins}
 use Rattle.text_lines.specs.Spelling.{IsRun, IsGap}
+use Rattle.text_lines.proofs.MaybeSigns.{begun}
 use Rattle.text_lines.proofs.SpelledWords.{Gap, Sign, Breaks, has_no_blank, run_takes, gap_of, gap_again, gap_breaks, front_again, behind_again}
 use Rattle.text_lines.proofs.WordsAgain.{text_of}
 use Rattle.hotkey_rules.proofs.FirstFound.{found_listed}
@@ -26,28 +27,6 @@ test_passed false k left u e = absurd cc
 pub one_read : {A : Type 0} (r : Result A HotkeyFault) (x y : A) → r ≡ Ok x → r ≡ Ok y → x ≡ y
 one_read (Ok z) x y h k = cc
 one_read (Err f) x y h k = absurd cc
-
--- ---- signs
-
-sign_by : (t : Bool) (b c : ℕ) (bs rest : List ℕ) → (b == c) ≡ t → cond t (Some (unblanked bs)) None ≡ Some rest → Sign c (b ∷ bs) rest
-sign_by true b c bs rest e h =
-    let same : unblanked bs ≡ rest = cc in
-    record { tail = bs; parts = ap (λ n. n ∷ bs) (eqb-true b c e); gap = subst (λ (r : List ℕ). Gap bs r) same (gap_of bs) }
-sign_by false b c bs rest e h = absurd cc
-
-pub maybe_sign_takes : (c : ℕ) (xs rest : List ℕ) → maybe_sign_at c xs ≡ Some rest → Sign c xs rest
-unfolding maybe_sign_at
-maybe_sign_takes c [] rest h = absurd cc
-maybe_sign_takes c (b ∷ bs) rest h = sign_by (b == c) b c bs rest refl h
-
-pub maybe_sign_again : (c : ℕ) (gap rest : List ℕ) → IsGap gap → is_tight rest ≡ true → maybe_sign_at c (c ∷ (gap ++ rest)) ≡ Some rest
-unfolding maybe_sign_at
-maybe_sign_again c gap rest h t = rw (eq-eqb c c refl, gap_again gap rest h t) refl
-
--- the byte that a line begins with
-pub begun : (c : ℕ) (xs : List ℕ) → begins c xs ≡ true → (rest : List ℕ) × (xs ≡ c ∷ rest)
-begun c [] h = absurd cc
-begun c (b ∷ bs) h = (bs, ap (λ n. n ∷ bs) (eqb-true b c h))
 
 -- ---- words
 

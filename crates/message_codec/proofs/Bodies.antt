@@ -1,6 +1,7 @@
 -- Bodies and the messages that they spell.
 use Rattle.std.proofs.Common.{◌≡◌, ℕ, List, [], ◌++◌, length, drop, map, Ok, Some, refl, sym, ap, subst, ◌∙◌}
 use Rattle.std.proofs.lemmas.List.{append-nil}
+use Rattle.wire_frames.proofs.First.{IsBytes}
 use Rattle.message_codec.specs.declared.messages.End.{End}
 use Rattle.message_codec.specs.declared.messages.Msg.{Msg}
 use Rattle.message_codec.specs.declared.messages.Msg.TheVariants as msg
@@ -13,7 +14,7 @@ use Rattle.message_codec.specs.Spelling.{Spells}
 use Rattle.message_codec.specs.Codes.{code_at}
 use Rattle.message_codec.proofs.CodeTexts.{one_code, drop-text, code_at-begins}
 use Rattle.message_codec.proofs.ReadFaults.{Reads}
-use Rattle.message_codec.proofs.Readers.{IsBytes, IsBytes-drop, ok_is}
+use Rattle.message_codec.proofs.Readers.{IsBytes-drop, ok_is}
 use Rattle.message_codec.proofs.FieldLaws.{fields_take, fields_again}
 use Rattle.message_codec.proofs.Building.{same_parts}
 

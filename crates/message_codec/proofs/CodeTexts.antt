@@ -5,6 +5,7 @@ use Rattle.std.specs.Prelude.{nat_eq}
 use Rattle.std.proofs.lemmas.List.{drop_at, length-append}
 use Rattle.std.proofs.lemmas.Slice.Eq.{starts_is}
 use Rattle.std.proofs.lemmas.Bool.Decides.{Decides-eqb}
+use Rattle.share_base.proofs.ListTests.{found_passes}
 use Rattle.message_codec.specs.declared.coding.Code.{Code}
 use Rattle.message_codec.specs.declared.coding.Code.TheVariants as code
 use Rattle.message_codec.specs.declared.messages.End.{End}
@@ -38,15 +39,6 @@ code_at-text from c rest sent = code_at-own from c rest ∙ ap (λ (d : Code). s
 
 pub some_is : {A : Type 0} (x y : A) → some x ≡ some y → x ≡ y
 some_is x y same = cc
-
--- what was found passes the test
-found_passes : {A : Type 0} (p : A → Bool) (xs : List A) (x : A) → find p xs ≡ Some x → p x ≡ true
-found_passes p [] x found = absurd cc
-found_passes p (y ∷ ys) x found = first (p y) refl found (found_passes p ys x)
-  where
-    first : (b : Bool) → p y ≡ b → cond b (Some y) (find p ys) ≡ Some x → (find p ys ≡ Some x → p x ≡ true) → p x ≡ true
-    first true here found later = subst (λ z. p z ≡ true) (some_is y x found) here
-    first false here found later = later found
 
 -- what follows the text
 pub drop-text : (c : Code) (rest : List ℕ) → drop (length (text c)) (text c ++ rest) ≡ rest

@@ -1,6 +1,7 @@
 -- What reading finds is what the definitions say, and what they say is found.
 use Rattle.std.proofs.Common.{◌≡◌, ℕ, ◌+◌, ◌-◌, ◌≤◌, List, [], ◌++◌, length, drop, Ok, Err, sym, ap, subst, ◌∙◌, arith}
 use Rattle.std.proofs.lemmas.List.{length-append}
+use Rattle.wire_frames.proofs.First.{IsBytes}
 use Rattle.message_codec.specs.declared.messages.End.{End}
 use Rattle.message_codec.specs.declared.coding.Code.{Code}
 use Rattle.message_codec.specs.declared.faults.BadBody.{BadBody}
@@ -11,7 +12,7 @@ use Rattle.message_codec.specs.Reading.{read_fields}
 use Rattle.message_codec.specs.Table.{text, kinds}
 use Rattle.message_codec.specs.Refusals.{IsShort, Whole, Refuses}
 use Rattle.message_codec.proofs.CodeTexts.{drop-text}
-use Rattle.message_codec.proofs.Readers.{IsBytes, IsBytes-drop}
+use Rattle.message_codec.proofs.Readers.{IsBytes-drop}
 use Rattle.message_codec.proofs.FieldLaws.{fields_take, fields_again}
 use Rattle.message_codec.proofs.ReadFaults.{Reads, Faults}
 use Rattle.message_codec.proofs.ShortFields.{fields_lack, fields_lacking}

@@ -4,7 +4,7 @@ use Rattle.std.proofs.lemmas.List.{append-nil, length-append}
 use Rattle.share_base.specs.declared.reason.Reason.{Reason}
 use Rattle.share_base.specs.declared.reason.Reason.TheVariants as reason
 use Rattle.wire_frames.specs.Framing.{frame, length_field}
-use Rattle.wire_frames.proofs.First.{front_of}
+use Rattle.wire_frames.proofs.First.{IsBytes, IsBytes-take, front_of}
 use Rattle.message_codec.specs.declared.messages.Msg.{Msg}
 use Rattle.message_codec.specs.declared.faults.BadBody.{BadBody}
 use Rattle.message_codec.specs.declared.faults.BadBody.TheVariants as bad
@@ -12,8 +12,9 @@ use Rattle.message_codec.specs.Spelling.{body_of, Spells}
 use Rattle.message_codec.specs.Reasons.{reason_of}
 use Rattle.message_codec.specs.Streams.{frame_of, frames_of, Reader, IsGood, AllGood}
 use Rattle.message_codec.specs.Verdicts.{IsRefused, IsBad, Rests, Verdict}
-use Rattle.message_codec.proofs.Readers.{IsBytes, IsBytes-take, IsBytes-drop}
-use Rattle.message_codec.proofs.OneVerdict.{frames-cons, regroup}
+use Rattle.message_codec.proofs.Readers.{IsBytes-drop}
+use Rattle.message_codec.proofs.FramesOf.{frames-cons}
+use Rattle.message_codec.proofs.OneVerdict.{regroup}
 use Rattle.message_codec.proofs.SpelledOrRefused.{spelled_or_refused}
 
 -- after some messages: the bytes are the frames of others, each where it may stand, and then a rest

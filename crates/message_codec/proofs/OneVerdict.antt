@@ -14,15 +14,12 @@ use Rattle.message_codec.specs.Reasons.{reason_of}
 use Rattle.message_codec.specs.Streams.{frame_of, frames_of, Reader, IsGood, AllGood}
 use Rattle.message_codec.specs.Verdicts.{IsRefused, IsMisplaced, IsBad, Rests, Verdict}
 use Rattle.message_codec.proofs.Bodies.{one_message}
+use Rattle.message_codec.proofs.FramesOf.{frames-cons}
 use Rattle.message_codec.proofs.RefusalLaws.{refused_spells_none, one_refusal}
 
 -- a body within a limit is short enough for its length to be spelled
 pub is_small : (r : Reader) (before : List Msg) (body : List ℕ) → length body ≤ r.limit before → length body < 2 ^ 32
 is_small r before body within = omega (arith, r.limited before)
-
--- the frames of a message and of others after it
-pub frames-cons : (m : Msg) (ms : List Msg) (rest : List ℕ) → frames_of (m ∷ ms) ++ rest ≡ frame_of m ++ (frames_of ms ++ rest)
-frames-cons m ms rest = ap (λ (t : List ℕ). t ++ rest) (flat_map-cons frame_of m ms) ∙ append_assoc (frame_of m) (frames_of ms) rest
 
 -- ---- what stands at the front
 

@@ -6,12 +6,13 @@ use Rattle.std.specs.Int.{Width, w16, w32, byte_len, from_be_bytes, to_be_bytes,
 use Rattle.std.proofs.lemmas.Bool.{ltb-true, lt-ltb, le-ltb}
 use Rattle.std.proofs.lemmas.List.{take_at, drop_at, length-append}
 use Rattle.std.proofs.lemmas.List.Concat.{flat_map-cons}
+use Rattle.wire_frames.proofs.First.{IsBytes}
 use Rattle.message_codec.specs.Kinds.{Kind}
 use Rattle.message_codec.specs.Kinds as kind
 use Rattle.message_codec.specs.Fields.{Field, Byte, Half, Signed, Word, Clip, Mark, Text, Words, kind_of, spelled, Fits, spelled_all}
 use Rattle.message_codec.specs.Reading.{Read, ◌>>=◌, number_at, signed_at, byte_at, text_at, words_at, read_field, read_fields}
 use Rattle.message_codec.specs.Refusals.{LacksFirst, Lacks}
-use Rattle.message_codec.proofs.Readers.{IsBytes, IsWide, wide32, word_reader}
+use Rattle.message_codec.proofs.Readers.{IsWide, wide32, word_reader}
 use Rattle.message_codec.proofs.FieldLaws.{field_takes, field_again}
 
 abbrev failed : {A : Type 0} → ℕ → Result A ℕ

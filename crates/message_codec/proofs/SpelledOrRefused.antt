@@ -1,6 +1,7 @@
 -- A body spells a message, or it is refused.
 use Rattle.std.proofs.Common.{◌≡◌, ℕ, ◌-◌, List, [], ◌∷◌, length, drop, Option, Some, None, Ok, Err, refl, sym, ap, ◌∙◌, arith, inl, inr}
 use Rattle.std.specs.Prelude.{◌⊎◌}
+use Rattle.wire_frames.proofs.First.{IsBytes}
 use Rattle.message_codec.specs.declared.messages.End.{End}
 use Rattle.message_codec.specs.declared.messages.End.TheVariants as ends
 use Rattle.message_codec.specs.declared.messages.Msg.{Msg}
@@ -13,7 +14,6 @@ use Rattle.message_codec.specs.Table.{Sender, server, client, both, Sends, row, 
 use Rattle.message_codec.specs.Codes.{code_at}
 use Rattle.message_codec.specs.Spelling.{Spells}
 use Rattle.message_codec.specs.Refusals.{Refuses}
-use Rattle.message_codec.proofs.Readers.{IsBytes}
 use Rattle.message_codec.proofs.CodeTexts.{code_at-begins, no_code, no_sent}
 use Rattle.message_codec.proofs.ReadFaults.{Reads}
 use Rattle.message_codec.proofs.Bodies.{read_spells}

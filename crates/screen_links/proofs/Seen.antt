@@ -1,6 +1,7 @@
 -- How many screens below a number were not seen yet, and what one more seen screen changes.
 use Rattle.std.proofs.Common.{◌≡◌, ℕ, zero, suc, ◌+◌, ◌<◌, ◌≤◌, Bool, true, false, cond, eqb, ◌||◌, refl, sym, ap, ◌∙◌, inl, inr, subst, arith}
 use Rattle.std.specs.Prelude.{◌≢◌}
+use Rattle.std.proofs.Math.Bool.{or-true, or-false}
 use Rattle.std.proofs.lemmas.Bool.Decides.{eqb_tells}
 use Rattle.share_base.specs.Screens.{has}
 
@@ -8,19 +9,11 @@ use Rattle.share_base.specs.Screens.{has}
 abbrev pub SeesMore : ℕ → ℕ → ℕ → Type 0
 SeesMore old new screen = (k : ℕ) → has new k ≡ (has old k || eqb k screen)
 
-or_false : (b : Bool) → (b || false) ≡ b
-or_false true = refl
-or_false false = refl
-
-or_true : (b : Bool) → (b || true) ≡ true
-or_true true = refl
-or_true false = refl
-
 -- the screen itself is seen
 pub sees_it : (old new screen : ℕ) → SeesMore old new screen → has new screen ≡ true
 sees_it old new screen more =
     elim (eqb_tells screen screen) [
-      | inl h ↦ more screen ∙ ap (λ (b : Bool). has old screen || b) h.0 ∙ or_true (has old screen)
+      | inl h ↦ more screen ∙ ap (λ (b : Bool). has old screen || b) h.0 ∙ or-true (has old screen)
       | inr h ↦ absurd (h.1 refl)
     ]
 
@@ -29,7 +22,7 @@ pub sees_others : (old new screen k : ℕ) → SeesMore old new screen → k ≢
 sees_others old new screen k more other =
     elim (eqb_tells k screen) [
       | inl h ↦ absurd (other h.1)
-      | inr h ↦ more k ∙ ap (λ (b : Bool). has old k || b) h.0 ∙ or_false (has old k)
+      | inr h ↦ more k ∙ ap (λ (b : Bool). has old k || b) h.0 ∙ or-false (has old k)
     ]
 
 or_none : (a b : Bool) → (a || b) ≡ false → a ≡ false

@@ -82,3 +82,14 @@ pub none_of_position : {A : Type 0} (p : A → Bool) (xs : List A) → position 
 none_of_position p xs h =
     let past = far (nat_lt (prefix_len (λ x. not (p x)) xs) (length xs)) (prefix_len (λ x. not (p x)) xs) h in
     all_of_prefix (λ x. not (p x)) xs (ltb-false _ _ past)
+
+-- ---- what was found
+
+found_by : {A : Type 0} (t : Bool) (p : A → Bool) (y : A) (ys : List A) (x : A) → p y ≡ t → (find p ys ≡ Some x → p x ≡ true) → cond t (Some y) (find p ys) ≡ Some x → p x ≡ true
+found_by true p y ys x e go h = let same : y ≡ x = cc in ap p (sym same) ∙ e
+found_by false p y ys x e go h = go h
+
+-- what was found passes the test
+pub found_passes : {A : Type 0} (p : A → Bool) (xs : List A) (x : A) → find p xs ≡ Some x → p x ≡ true
+found_passes p [] x h = absurd cc
+found_passes p (y ∷ ys) x h = found_by (p y) p y ys x refl (found_passes p ys x) h

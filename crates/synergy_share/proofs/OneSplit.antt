@@ -12,7 +12,7 @@ use Rattle.message_codec.proofs.Bodies.{one_message}
 use Rattle.message_codec.proofs.RefusalLaws.{refused_spells_none}
 use Rattle.synergy_share.specs.Ways.{Way}
 use Rattle.synergy_share.specs.Begins.{IsMessage, GoesOn, Begins, IsBad, IsSettled}
-use Rattle.synergy_share.proofs.Streams.{frames-cons}
+use Rattle.message_codec.proofs.FramesOf.{frames-cons}
 
 pub small : (w : Way) (m : Msg) → IsMessage w m → length (body_of m) < 2 ^ 32
 small w m good = omega (arith, good.within)

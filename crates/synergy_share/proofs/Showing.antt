@@ -13,7 +13,8 @@ use Rattle.synergy_share.specs.Begins.{GoesOn, StopsAt}
 use Rattle.synergy_share.specs.Cores.{Printed, StandsAt, Further, IsByBytes}
 use Rattle.synergy_share.specs.Showing.{ShowsOne}
 use Rattle.synergy_share.specs.Shower.{IsOpen, OpenAt, Shown}
-use Rattle.synergy_share.proofs.Streams.{flat_map-last, all-append, length-frames_of, begins_none, begins_one}
+use Rattle.message_codec.proofs.FramesOf.{length-frames_of}
+use Rattle.synergy_share.proofs.Streams.{flat_map-last, all-append, begins_none, begins_one}
 
 -- the framer stands at the rest after these messages, whose lines were printed
 pub record Going (from : End) (framer : FramerParts) (lines : List ℕ) (place total : ℕ) (messages : List Msg) (rest taken : List ℕ) : Type 0 where

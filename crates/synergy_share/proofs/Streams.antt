@@ -17,13 +17,6 @@ pub all-append : {A : Type 0} (P : A → Type 0) (xs ys : List A) → AllByRecur
 all-append P [] ys p q = q
 all-append P (x ∷ xs) ys p q = (p.0, all-append P xs ys p.1 q)
 
-pub length-frames_of : (ms : List Msg) (m : Msg) → length (frames_of (ms ++ m ∷ [])) ≡ length (frames_of ms) + length (frame_of m)
-length-frames_of ms m = ap length (flat_map-last frame_of ms m) ∙ length-append (frames_of ms) (frame_of m)
-
--- the frames of a message and of others after it
-pub frames-cons : (m : Msg) (ms : List Msg) (rest : List ℕ) → frames_of (m ∷ ms) ++ rest ≡ frame_of m ++ (frames_of ms ++ rest)
-frames-cons m ms rest = ap (λ (t : List ℕ). t ++ rest) (flat_map-cons frame_of m ms) ∙ append_assoc (frame_of m) (frames_of ms) rest
-
 pub begins_none : (w : Way) (stream : List ℕ) → Begins w [] stream stream
 begins_none w stream = record { stream_is = refl; going = tt }
 

@@ -35,7 +35,7 @@ clean_solid xs plain solid some = record {
   ends = solid_at xs (length xs - 1) solid (omega arith);
 }
 
-tight_front : (xs ys : List ℕ) → 0 < length xs → is_tight xs ≡ true → is_tight (xs ++ ys) ≡ true
+pub tight_front : (xs ys : List ℕ) → 0 < length xs → is_tight xs ≡ true → is_tight (xs ++ ys) ≡ true
 tight_front [] ys h t = absurd (omega arith)
 tight_front (x ∷ xs) ys h t = t
 

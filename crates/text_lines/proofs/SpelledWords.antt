@@ -1,12 +1,12 @@
 -- Gaps, words and signs are read exactly where they are spelled.
-use Rattle.std.proofs.Common.{◌≡◌, ℕ, suc, ◌+◌, ◌<◌, Bool, true, false, cond, not, ◌==◌, List, [], ◌∷◌, ◌++◌, length, take, drop, Result, Ok, Err, refl, ap, sym, subst, ◌∙◌, inl, inr, arith, take_at, drop_at, take-append-drop, append-nil}
+use Rattle.std.proofs.Common.{◌≡◌, ℕ, suc, ◌+◌, ◌<◌, Bool, true, false, cond, not, ◌==◌, List, [], ◌∷◌, ◌++◌, length, take, drop, Result, Ok, Err, Option, Some, None, refl, ap, sym, subst, ◌∙◌, inl, inr, arith, take_at, drop_at, take-append-drop, append-nil}
 use Rattle.std.specs.List.{prefix_len, list_all}
 use Rattle.std.specs.Char.{is_ascii_alphanumeric}
 use Rattle.std.proofs.lemmas.Bool.{and_parts, or_cases, eqb-true, eq-eqb, not-true, both_ways}
 use Rattle.text_lines.specs.declared.bytes.WordKind.{WordKind}
 use Rattle.text_lines.specs.declared.bytes.WordKind.TheVariants as kind
 use Rattle.text_lines.specs.Bytes.{is_blank, is_tight, takes, front, behind, unblanked}
-use Rattle.text_lines.specs.Reading.{◌>>=◌, Text, run_at, word_at, sign_at, end_at, is_empty}
+use Rattle.text_lines.specs.Reading.{◌>>=◌, Text, run_at, word_at, sign_at, end_at, or_left, is_empty}
 use Rattle.text_lines.specs.Spelling.{IsRun, IsGap, IsWord}
 
 -- what a chain of readers gave, it gave by what its first one gave
@@ -26,6 +26,10 @@ same_answer (Err n) x y h k = absurd cc
 pub one_answer : {A : Type 0} (r : Result A ℕ) (x : A) (left : ℕ) → r ≡ Ok x → r ≡ Err left → ⊥
 one_answer (Ok z) x left h k = cc
 one_answer (Err n) x left h k = cc
+
+pub or_left_takes : {A : Type 0} (o : Option A) (left : ℕ) (x : A) → or_left o left ≡ Ok x → o ≡ Some x
+or_left_takes None left x h = absurd cc
+or_left_takes (Some y) left x h = cc
 
 -- ---- gaps
 
