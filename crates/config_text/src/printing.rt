@@ -1,6 +1,6 @@
 //! The normal form of a configuration.
 
-ghost use Rattle.std.specs.Prelude.{◌≡◌, ◌<◌, ◌≤◌, ◌++◌, ◌∷◌, [], length, IfSome, OnOk, OnErr, slice_get, if◌then◌else◌, ◌==◌, ◌&&◌, codes};
+ghost use Rattle.std.specs.Prelude.{◌≡◌, ◌<◌, ◌≤◌, ◌++◌, ◌∷◌, ◌^◌, ◌-◌, [], length, IfSome, OnOk, OnErr, slice_get, if◌then◌else◌, ◌==◌, ◌&&◌, codes};
 ghost use Rattle.std.specs.Option.{option_copied};
 ghost use Rattle.std.specs.List.{find, flat_map};
 ghost use Rattle.text_lines.specs.Reading.{is_empty};
