@@ -8,6 +8,8 @@ pub mod Bounds
 pub mod CleanLines
 pub mod FaultOrder
 pub mod FirstFaults
+pub mod FlatMapLengths
+pub mod HotkeyLengths
 pub mod HotkeysAgain
 pub mod KeyPlaces
 pub mod KeysAgain
@@ -16,15 +18,18 @@ pub mod LineNumbers
 pub mod LineRuns
 pub mod LinkWords
 pub mod LinksAgain
+pub mod NameLengths
 pub mod NamesAgain
 pub mod NamesApart
 pub mod NamesClean
 pub mod NewLinks
 pub mod NormalByValue
 pub mod Numbers
+pub mod OptionLengths
 pub mod OptionsAgain
 pub mod Overlapping
 pub mod Picking
+pub mod PrintedLengths
 pub mod RangesAgain
 pub mod RisingLinks
 pub mod Runs
