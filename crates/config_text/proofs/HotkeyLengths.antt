@@ -46,8 +46,13 @@ list_short : (c : Configuration) (count : ℕ) (actions : List Action) → IsSou
 list_short c count [] s h = omega arith
 list_short c count (a ∷ actions) s h =
     let e = and_parts (is_action_among count a) (list_all (is_action_among count) actions) h in
-    omega (arith, length-append (action_of c a) (and_further (map (action_of c) actions)), ap (λ (t : List ℕ). length t) (further_texts c actions), action_of_short c count a s e.0,
-    all_short (further_action c) 300 (is_action_among count) actions (λ b k. further_short c count b s k) e.1)
+    omega (
+      arith,
+      length-append (action_of c a) (and_further (map (action_of c) actions)),
+      ap (λ (t : List ℕ). length t) (further_texts c actions),
+      action_of_short c count a s e.0,
+      all_short (further_action c) 300 (is_action_among count) actions (λ b k. further_short c count b s k) e.1,
+    )
 
 between_short : (press release : Bool) → length (between press release) ≤ 2
 between_short true true = omega arith
@@ -66,11 +71,20 @@ hotkey_short c count rule s t h =
     let press = map (action_of c) rule.press in
     let release = map (action_of c) rule.release in
     let sign = between (has_some press) (has_some release) in
-    omega (arith, length-append (one_tab ++ ((((trigger ++ codes " = ") ++ with_commas press) ++ sign) ++ with_commas release)) (10 ∷ []),
-    length-append one_tab ((((trigger ++ codes " = ") ++ with_commas press) ++ sign) ++ with_commas release),
-    length-append (((trigger ++ codes " = ") ++ with_commas press) ++ sign) (with_commas release), length-append ((trigger ++ codes " = ") ++ with_commas press) sign,
-    length-append (trigger ++ codes " = ") (with_commas press), length-append trigger (codes " = "), length-append rule.press rule.release, trigger_short rule.trigger t,
-    between_short (has_some press) (has_some release), list_short c count rule.press s parts.0, list_short c count rule.release s parts.1)
+    omega (
+      arith,
+      length-append (one_tab ++ ((((trigger ++ codes " = ") ++ with_commas press) ++ sign) ++ with_commas release)) (10 ∷ []),
+      length-append one_tab ((((trigger ++ codes " = ") ++ with_commas press) ++ sign) ++ with_commas release),
+      length-append (((trigger ++ codes " = ") ++ with_commas press) ++ sign) (with_commas release),
+      length-append ((trigger ++ codes " = ") ++ with_commas press) sign,
+      length-append (trigger ++ codes " = ") (with_commas press),
+      length-append trigger (codes " = "),
+      length-append rule.press rule.release,
+      trigger_short rule.trigger t,
+      between_short (has_some press) (has_some release),
+      list_short c count rule.press s parts.0,
+      list_short c count rule.release s parts.1,
+    )
 
 pub hotkeys_short : (c : Configuration) (count : ℕ) (rules : List Rule) → IsSound c → list_all (λ rule. is_trigger rule.trigger) rules ≡ true
     → list_all (is_action_among count) (actions_in rules) ≡ true → length (flat_map (hotkey_of c) rules) ≤ 100 * length rules + 300 * length (actions_in rules)
@@ -78,5 +92,10 @@ hotkeys_short c count [] s t h = omega arith
 hotkeys_short c count (rule ∷ rules) s t h =
     let parts = all_parts (is_action_among count) (rule.press ++ rule.release) (actions_in rules) h in
     let triggers = and_parts (is_trigger rule.trigger) (list_all (λ (r : Rule). is_trigger r.trigger) rules) t in
-    omega (arith, length-append (hotkey_of c rule) (flat_map (hotkey_of c) rules), length-append (rule.press ++ rule.release) (actions_in rules),
-    hotkey_short c count rule s triggers.0 parts.0, hotkeys_short c count rules s triggers.1 parts.1)
+    omega (
+      arith,
+      length-append (hotkey_of c rule) (flat_map (hotkey_of c) rules),
+      length-append (rule.press ++ rule.release) (actions_in rules),
+      hotkey_short c count rule s triggers.0 parts.0,
+      hotkeys_short c count rules s triggers.1 parts.1,
+    )

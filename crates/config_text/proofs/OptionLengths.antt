@@ -36,8 +36,13 @@ value_short form.Protocol v h e = each_short form.Protocol 2 refl v (omega (arit
 
 text_short : (o : OptionName) (v : ℕ) → suits (row_of o).form v ≡ true → length (option_text o v) ≤ 93
 text_short o v e =
-    omega (arith, length-append ((row_of o).key ++ codes " = ") (value_text (row_of o).form v), length-append (row_of o).key (codes " = "), key_short o,
-    value_short (row_of o).form v (row_value_fits o v e) e)
+    omega (
+      arith,
+      length-append ((row_of o).key ++ codes " = ") (value_text (row_of o).form v),
+      length-append (row_of o).key (codes " = "),
+      key_short o,
+      value_short (row_of o).form v (row_value_fits o v e) e,
+    )
 
 line_short : (stands : Scope → Bool) (tabs : List ℕ) (o : OptionName) (set : Option ℕ) → length tabs ≤ 2 → may_be stands o set ≡ true → length (line_where_set tabs o set) ≤ 100
 line_short stands tabs o None h m = omega arith

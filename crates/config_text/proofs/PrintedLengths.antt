@@ -45,8 +45,13 @@ block_short name (b ∷ below) h = omega (arith, length-append (header_text name
 section_short : (name below : List ℕ) → length name ≤ 7 → length (section_of name below) ≤ 21 + length below
 unfolding section_of
 section_short name below h =
-    omega (arith, length-append ((codes "section: " ++ name) ++ 10 ∷ []) (below ++ (codes "end" ++ 10 ∷ [])), length-append (codes "section: " ++ name) (10 ∷ []), length-append (codes "section: ") name,
-    length-append below (codes "end" ++ 10 ∷ []))
+    omega (
+      arith,
+      length-append ((codes "section: " ++ name) ++ 10 ∷ []) (below ++ (codes "end" ++ 10 ∷ [])),
+      length-append (codes "section: " ++ name) (10 ∷ []),
+      length-append (codes "section: ") name,
+      length-append below (codes "end" ++ 10 ∷ []),
+    )
 
 -- ---- screens
 
@@ -78,8 +83,11 @@ aliases_named c s = sym (list_all-map is_name (λ (a : Alias). a.name) c.aliases
 aliases_of_short : (c : Configuration) (n : ℕ) → IsSound c → length (aliases_of c n) ≤ 80000
 unfolding aliases_of
 aliases_of_short c n s =
-    omega (arith, block_short (name_of c n) (flat_map (alias_text n) c.aliases) (name_short c n s),
-    short_within (alias_text n) 300 256 (λ a. is_name a.name) c.aliases (λ a h. alias_short (names_screen n a) n a refl h) (aliases_named c s) s.aliases)
+    omega (
+      arith,
+      block_short (name_of c n) (flat_map (alias_text n) c.aliases) (name_short c n s),
+      short_within (alias_text n) 300 256 (λ a. is_name a.name) c.aliases (λ a h. alias_short (names_screen n a) n a refl h) (aliases_named c s) s.aliases,
+    )
 
 few_numbers : (c : Configuration) → IsSound c → length (numbers_of c) ≤ 64
 few_numbers c s = omega (arith, count_of_numbers c, s.screens)
@@ -93,9 +101,15 @@ range_short : (t : Bool) (r : Range) → ((r.a == 0) && (r.b == 100)) ≡ t → 
 unfolding range_text
 range_short true r e g = rw e (omega arith)
 range_short false r e g =
-    rw e (omega (arith, length-append (((codes "(" ++ decimal r.a) ++ codes ",") ++ decimal r.b) (codes ")"), length-append ((codes "(" ++ decimal r.a) ++ codes ",") (decimal r.b),
-    length-append (codes "(" ++ decimal r.a) (codes ","), length-append (codes "(") (decimal r.a),
-    length-decimal-le 3 r.a (omega arith) (omega (arith, g.some, g.within)) (omega (arith, g.some, g.within)), length-decimal-le 3 r.b (omega arith) (omega (arith, g.within)) (omega (arith, g.within))))
+    rw e (omega (
+      arith,
+      length-append (((codes "(" ++ decimal r.a) ++ codes ",") ++ decimal r.b) (codes ")"),
+      length-append ((codes "(" ++ decimal r.a) ++ codes ",") (decimal r.b),
+      length-append (codes "(" ++ decimal r.a) (codes ","),
+      length-append (codes "(") (decimal r.a),
+      length-decimal-le 3 r.a (omega arith) (omega (arith, g.some, g.within)) (omega (arith, g.some, g.within)),
+      length-decimal-le 3 r.b (omega arith) (omega (arith, g.within)) (omega (arith, g.within)),
+    ))
 
 link_short : (c : Configuration) (l : Link) → IsSound c → HasGoodRanges l → length (link_text c l) ≤ 300
 unfolding link_text
@@ -104,9 +118,19 @@ link_short c l s good =
     let range = range_text l.range in
     let name = name_of c l.to.0 in
     let onto = range_text l.onto in
-    omega (arith, length-append (((((two_tabs ++ side) ++ range) ++ codes " = ") ++ name) ++ onto) (10 ∷ []), length-append ((((two_tabs ++ side) ++ range) ++ codes " = ") ++ name) onto,
-    length-append (((two_tabs ++ side) ++ range) ++ codes " = ") name, length-append ((two_tabs ++ side) ++ range) (codes " = "), length-append (two_tabs ++ side) range, length-append two_tabs side,
-    side_short l.side, name_short c l.to.0 s, range_short _ l.range refl good.0, range_short _ l.onto refl good.1)
+    omega (
+      arith,
+      length-append (((((two_tabs ++ side) ++ range) ++ codes " = ") ++ name) ++ onto) (10 ∷ []),
+      length-append ((((two_tabs ++ side) ++ range) ++ codes " = ") ++ name) onto,
+      length-append (((two_tabs ++ side) ++ range) ++ codes " = ") name,
+      length-append ((two_tabs ++ side) ++ range) (codes " = "),
+      length-append (two_tabs ++ side) range,
+      length-append two_tabs side,
+      side_short l.side,
+      name_short c l.to.0 s,
+      range_short _ l.range refl good.0,
+      range_short _ l.onto refl good.1,
+    )
 
 found_short : (c : Configuration) (n : ℕ) (side : Side) (a : ℕ) (o : Option Link) → link_beginning c n side a ≡ o → IsSound c → length (maybe_link c o) ≤ 300
 found_short c n side a None e s = omega arith
@@ -132,8 +156,14 @@ links_short c s = each_within (links_of c) 130000 64 (numbers_of c) (λ n. links
 
 options_short : (c : Configuration) → IsSound c → length (options_text c) ≤ 1260000
 options_short c s =
-    omega (arith, length-append (option_lines one_tab c.settings) (hotkeys_text c), option_lines_short stands_for_all one_tab c.settings (omega arith) s.for_all,
-    hotkeys_short c (length c.screens) c.hotkeys s s.hotkeys.triggers s.hotkeys.actions, s.hotkeys.few, s.hotkeys.few_actions)
+    omega (
+      arith,
+      length-append (option_lines one_tab c.settings) (hotkeys_text c),
+      option_lines_short stands_for_all one_tab c.settings (omega arith) s.for_all,
+      hotkeys_short c (length c.screens) c.hotkeys s s.hotkeys.triggers s.hotkeys.actions,
+      s.hotkeys.few,
+      s.hotkeys.few_actions,
+    )
 
 -- ---- all
 
@@ -144,10 +174,21 @@ normal_short c s =
     let aliases = section_of (codes "aliases") (aliases_text c) in
     let links = section_of (codes "links") (links_text c) in
     let options = section_of (codes "options") (options_text c) in
-    omega (arith, length-append ((screens ++ aliases) ++ links) options, length-append (screens ++ aliases) links, length-append screens aliases,
-    section_short (codes "screens") (screens_text c) (omega arith), section_short (codes "aliases") (aliases_text c) (omega arith), section_short (codes "links") (links_text c) (omega arith),
-    section_short (codes "options") (options_text c) (omega arith), screens_short c s, aliases_short c s, links_short c s, options_short c s)
+    omega (
+      arith,
+      length-append ((screens ++ aliases) ++ links) options,
+      length-append (screens ++ aliases) links,
+      length-append screens aliases,
+      section_short (codes "screens") (screens_text c) (omega arith),
+      section_short (codes "aliases") (aliases_text c) (omega arith),
+      section_short (codes "links") (links_text c) (omega arith),
+      section_short (codes "options") (options_text c) (omega arith),
+      screens_short c s,
+      aliases_short c s,
+      links_short c s,
+      options_short c s,
+    )
 
--- of a configuration that the code's stands for
+-- said of the configuration that contracts see
 pub seen_short : (c seen : Configuration) → c ≡ seen → IsSound c → length (normal seen) < 2 ^ 32 - 1
 seen_short c seen e s = subst (λ (k : Configuration). length (normal k) < 2 ^ 32 - 1) e (normal_short c s)

@@ -1,5 +1,5 @@
 -- Printed triggers and actions are short.
-use Rattle.std.proofs.Common.{◌≡◌, ℕ, ◌+◌, ◌*◌, ◌/◌, ◌%◌, ◌^◌, ◌<◌, ◌≤◌, Bool, true, false, List, [], ◌∷◌, ◌++◌, length, Option, Some, None, nat_lt, nat_le, refl, sym, subst, length-append, arith}
+use Rattle.std.proofs.Common.{◌≡◌, ℕ, ◌+◌, ◌*◌, ◌<◌, ◌≤◌, Bool, true, false, List, [], ◌∷◌, ◌++◌, length, Option, Some, None, nat_lt, nat_le, refl, sym, subst, length-append, arith}
 use Rattle.std.specs.Prelude.{codes}
 use Rattle.std.specs.List.{flat_map}
 use Rattle.std.specs.Fmt.{decimal}
@@ -29,7 +29,7 @@ use Rattle.hotkey_text.specs.Chords.{class_word, has_class}
 use Rattle.hotkey_text.specs.Keys.{is_plain}
 use Rattle.hotkey_text.specs.LockModes.{lock_word}
 use Rattle.hotkey_text.specs.Names.{action_word}
-use Rattle.hotkey_text.specs.Printed.{coded_text, name_or_number, key_text, mod_text, mods_text, key_chord_text, mouse_chord_text, call_text, trigger_text, action_text}
+use Rattle.hotkey_text.specs.Printed.{name_or_number, key_text, mod_text, mods_text, key_chord_text, mouse_chord_text, call_text, trigger_text, action_text}
 use Rattle.hotkey_text.specs.Spelled.{is_mouse_button, are_mods, is_mouse_chord, is_trigger, is_action}
 use Rattle.hotkey_text.proofs.ArgumentBytes.{listed_passes}
 use Rattle.hotkey_text.proofs.ActionsAgain.{name_in, argument_in, action_is}
