@@ -1,6 +1,6 @@
 //! The normal form of a configuration.
 
-ghost use Rattle.std.specs.Prelude.{◌≡◌, ◌<◌, ◌≤◌, ◌++◌, ◌∷◌, [], length, IfSome, OnOk, OnErr, slice_get, if◌then◌else◌, ◌==◌, ◌&&◌, codes};
+ghost use Rattle.std.specs.Prelude.{◌≡◌, ◌<◌, ◌≤◌, ◌++◌, ◌∷◌, ◌^◌, ◌-◌, [], length, IfSome, OnOk, OnErr, slice_get, if◌then◌else◌, ◌==◌, ◌&&◌, codes};
 ghost use Rattle.std.specs.Option.{option_copied};
 ghost use Rattle.std.specs.List.{find, flat_map};
 ghost use Rattle.text_lines.specs.Reading.{is_empty};
@@ -253,12 +253,13 @@ impl Config {
     }
 }
 
-/// Adds the normal form of a configuration. That text is accepted, and spells a configuration of the same
-/// value. After `OutOfMemory` nothing was added.
+/// Adds the normal form of a configuration. That text has fewer than 4,294,967,295 bytes, as `parse` wants;
+/// it is accepted, and spells a configuration of the same value. After `OutOfMemory` nothing was added.
 #[tactic(auto, unfolding(crate::specs::Normal::normal))]
 pub fn print(alloc: Global, config: &Config, out: &mut Octets) -> Result<(), OutOfMemory>
     ensures ok { OnOk result (out.new ≡ out.old ++ normal config.now) }
     ensures again { OnOk result (SpellsAgain (normal config.now) config.now) }
+    ensures fits { length (normal config.now) < 2 ^ 32 - 1 }
     ensures err { OnErr result (out.new ≡ out.old) }
 {
     let mut text = Octets::new(alloc);

@@ -1,3 +1,4 @@
+pub mod ActionLengths
 pub mod ActionLists
 pub mod ActionsAgain
 pub mod ArgumentBytes
