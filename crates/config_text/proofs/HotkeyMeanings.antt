@@ -1,11 +1,8 @@
 -- A hotkey's line is taken exactly where its words mean a rule that is within the limits.
-use Rattle.std.proofs.Common.{◌≡◌, ℕ, Bool, true, List, [], ◌∷◌, ◌++◌, Result, Ok, Err, Option, Some, None, refl, ap, sym, ◌∙◌}
+use Rattle.std.proofs.Common.{◌≡◌, ℕ, Bool, true, false, List, [], ◌∷◌, ◌++◌, Ok, Option, Some, None, refl, ap, subst}
 use Rattle.std.specs.List.{AllZip}
 use Rattle.hotkey_rules.specs.declared.action.Action.{Action}
-use Rattle.hotkey_rules.specs.declared.action.Action.TheVariants as action
-use Rattle.hotkey_rules.specs.declared.trigger.Trigger.{Trigger}
 use Rattle.text_lines.specs.Reading.{◌>>=◌}
-use Rattle.hotkey_text.specs.declared.faults.HotkeyFault.{HotkeyFault}
 use Rattle.hotkey_text.specs.Shapes.{ActionForm, HotkeyForm}
 use Rattle.hotkey_text.specs.Arguments as words
 use Rattle.hotkey_text.proofs.SpelledActions.{action_takes, action_read}
@@ -14,10 +11,9 @@ use Rattle.hotkey_text.proofs.SpelledWords.{went}
 use Rattle.config_text.proofs.ActionRuns.{words_judged}
 use Rattle.config_text.specs.declared.faults.ConfigKind.{ConfigKind}
 use Rattle.config_text.specs.declared.faults.ConfigKind.TheVariants as kind
-use Rattle.config_text.specs.declared.faults.Fault.{Fault}
-use Rattle.config_text.specs.Configurations.{Configuration, screen_of, with_hotkey}
+use Rattle.config_text.specs.Configurations.{Configuration, screen_of}
 use Rattle.config_text.specs.Judging.{or_fault, unless}
-use Rattle.config_text.specs.Hotkeys.{judged_words, nothing_further, screen_named, meant, action_of, actions_of, has_room, next_rule, new_hotkey}
+use Rattle.config_text.specs.Hotkeys.{judged_words, nothing_further, screen_named, meant, action_of, actions_of, has_room, new_hotkey}
 use Rattle.config_text.specs.HotkeyMeanings.{MeansWords, MeansAction, MeansHotkey}
 
 -- ---- steps that went well

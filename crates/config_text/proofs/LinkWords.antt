@@ -1,5 +1,5 @@
 -- The words of a link that is printed are read again.
-use Rattle.std.proofs.Common.{◌≡◌, ℕ, ◌<◌, Bool, true, false, cond, ◌==◌, List, [], ◌∷◌, ◌++◌, length, Ok, refl, ap, sym, subst, ◌∙◌, append_assoc, append-nil, arith}
+use Rattle.std.proofs.Common.{◌≡◌, ℕ, Bool, true, false, cond, ◌==◌, List, [], ◌∷◌, ◌++◌, length, Ok, refl, ap, sym, subst, ◌∙◌, append_assoc, append-nil, arith}
 use Rattle.std.specs.Prelude.{codes}
 use Rattle.std.specs.List.{list_all, list_any, prefix_len}
 use Rattle.std.specs.Str.{bytes_eq}
@@ -15,7 +15,7 @@ use Rattle.share_base.proofs.ListTests.{all_append}
 use Rattle.screen_links.specs.declared.range.Range.{Range}
 use Rattle.screen_links.specs.Ranges.{IsGood}
 use Rattle.text_lines.specs.declared.bytes.WordKind.TheVariants as kind
-use Rattle.text_lines.specs.Bytes.{takes, is_tight, unblanked}
+use Rattle.text_lines.specs.Bytes.{takes, unblanked}
 use Rattle.text_lines.specs.Reading.{is_empty, sign_at}
 use Rattle.text_lines.proofs.CleanWords.{is_plain, IsClean, clean_around, clean_solid, tight_front}
 use Rattle.text_lines.proofs.WordsAgain.{word_again, text_of}

@@ -1,5 +1,5 @@
 -- All faults of a hotkey's line: of its words, from the left, and then of a limit.
-use Rattle.std.specs.Prelude.{ℕ, List, [], ◌++◌, map, Result, Ok, Err, is_some}
+use Rattle.std.specs.Prelude.{ℕ, List, [], ◌++◌, map, Result, Ok, is_some}
 use Rattle.hotkey_rules.specs.declared.action.Action.{Action}
 use Rattle.hotkey_text.specs.declared.faults.HotkeyFault.{HotkeyFault}
 use Rattle.hotkey_text.specs.Shapes.{HotkeyForm}

@@ -1,5 +1,5 @@
 -- What a hotkey's line means among the screens that are named above it.
-use Rattle.std.specs.Prelude.{◌≡◌, ℕ, true, List, ◌++◌, Option, Some, None}
+use Rattle.std.specs.Prelude.{◌≡◌, ℕ, true, List, ◌++◌, Some, None}
 use Rattle.std.specs.List.{AllZip}
 use Rattle.hotkey_rules.specs.declared.action.Action.{Action}
 use Rattle.hotkey_rules.specs.declared.action.Action.TheVariants as action

@@ -1,6 +1,6 @@
 -- Printed modifiers, and the key or the number behind them, are read again.
 use Rattle.std.proofs.Common.{◌≡◌, ℕ, zero, suc, ◌<◌, Bool, true, false, not, ◌&&◌, ◌==◌, List, [], ◌∷◌, ◌++◌, length, Some, Result, Ok, refl, ap, sym, ◌∙◌, append_assoc, nat_lt, arith}
-use Rattle.std.specs.Prelude.{if◌then◌else◌, bit_or}
+use Rattle.std.specs.Prelude.{if◌then◌else◌}
 use Rattle.std.specs.List.{list_all, flat_map}
 use Rattle.std.specs.Fmt.{decimal}
 use Rattle.std.proofs.lemmas.Bool.{agree_below_at, and_parts, eqb-true, ltb-true, ne_eqb, not-true}
@@ -9,7 +9,7 @@ use Rattle.share_base.specs.declared.numbers.Mask.{Mask}
 use Rattle.share_base.specs.declared.numbers.MouseButton.{MouseButton}
 use Rattle.share_base.proofs.ListTests.{all_weaker, all_append}
 use Rattle.modifier_map.specs.declared.class.ModClass.{ModClass}
-use Rattle.modifier_map.specs.Table.{row, all_classes}
+use Rattle.modifier_map.specs.Table.{all_classes}
 use Rattle.text_lines.specs.declared.bytes.WordKind.TheVariants as kind
 use Rattle.text_lines.specs.Bytes.{takes, front, behind, unblanked}
 use Rattle.text_lines.specs.Numbers.{decimal_of}

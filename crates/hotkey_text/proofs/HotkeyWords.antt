@@ -1,12 +1,12 @@
 -- A line is taken for a hotkey's exactly where it begins with one of the two words and a (.
-use Rattle.std.proofs.Common.{◌≡◌, ℕ, true, ◌&&◌, List, [], ◌∷◌, ◌++◌, Ok, Option, Some, None, refl, ap, sym, ◌∙◌, arith}
+use Rattle.std.proofs.Common.{◌≡◌, ℕ, true, ◌&&◌, List, [], ◌∷◌, ◌++◌, Option, Some, None, refl, ap, sym, ◌∙◌, arith}
 use Rattle.std.specs.Prelude.{is_some}
 use Rattle.std.specs.Str.{bytes_eq}
-use Rattle.std.proofs.lemmas.Bool.{and_parts, eqb-true}
+use Rattle.std.proofs.lemmas.Bool.{and_parts}
 use Rattle.std.proofs.lemmas.Slice.Eq.{bytes_eq-Decides}
 use Rattle.text_lines.specs.declared.bytes.WordKind.TheVariants as kind
 use Rattle.text_lines.specs.Bytes.{takes}
-use Rattle.text_lines.specs.Reading.{Text, run_at, begins, or_left}
+use Rattle.text_lines.specs.Reading.{Text, run_at, begins}
 use Rattle.text_lines.specs.Spelling.{IsWord}
 use Rattle.text_lines.proofs.MaybeSigns.{begun}
 use Rattle.text_lines.proofs.SpelledWords.{Run, run_takes, front_again, behind_again, gap_again, gap_breaks}

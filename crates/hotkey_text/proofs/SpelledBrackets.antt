@@ -1,12 +1,10 @@
 -- An argument in brackets, and a comma that may stand there, are read exactly where they are spelled.
-use Rattle.std.proofs.Common.{◌≡◌, ℕ, Bool, true, false, cond, ◌==◌, List, [], ◌∷◌, ◌++◌, Some, None, Ok, refl, ap, sym, subst, ◌∙◌, take-append-drop}
+use Rattle.std.proofs.Common.{◌≡◌, ℕ, true, List, [], ◌∷◌, ◌++◌, Ok, refl, ap, sym, subst, ◌∙◌, take-append-drop}
 use Rattle.std.specs.List.{prefix_len}
-use Rattle.std.proofs.lemmas.Bool.{eqb-true, eq-eqb}
 use Rattle.text_lines.specs.declared.bytes.WordKind.TheVariants as kind
-use Rattle.text_lines.specs.Bytes.{takes, is_tight, front, behind, unblanked}
-use Rattle.text_lines.specs.Reading.{sign_at, maybe_sign_at, begins}
-use Rattle.text_lines.specs.Spelling.{IsGap}
-use Rattle.text_lines.proofs.SpelledWords.{on_ok, Sign, Gap, gap_of, gap_again, front_run, behind_again, sign_takes, sign_again}
+use Rattle.text_lines.specs.Bytes.{takes, is_tight, front, behind}
+use Rattle.text_lines.specs.Reading.{sign_at}
+use Rattle.text_lines.proofs.SpelledWords.{on_ok, Sign, front_run, behind_again, sign_takes, sign_again}
 use Rattle.hotkey_text.specs.Shapes.{argument_at}
 use Rattle.hotkey_text.specs.Spelling.{SpellsBrackets}
 

@@ -1,8 +1,8 @@
 -- What words of a hotkey's line mean is a trigger or an action that a text can spell.
-use Rattle.std.proofs.Common.{◌≡◌, ℕ, zero, suc, ◌+◌, ◌-◌, ◌*◌, ◌^◌, ◌<◌, ◌≤◌, Bool, true, false, not, cond, ◌&&◌, ◌||◌, ◌==◌, List, [], ◌∷◌, Option, Some, None, Result, Ok, Err, refl, ap, subst, inl, inr, arith}
+use Rattle.std.proofs.Common.{◌≡◌, ℕ, zero, suc, ◌^◌, ◌<◌, ◌≤◌, Bool, true, false, not, cond, ◌&&◌, ◌||◌, ◌==◌, List, [], ◌∷◌, Option, Some, None, Result, Ok, Err, refl, ap, subst, inl, inr, arith}
 use Rattle.std.specs.Prelude.{nat_lt, nat_le, bit_or}
 use Rattle.std.specs.Int.{is_in_range}
-use Rattle.std.specs.Char.{is_ascii_hexdigit, is_ascii_digit, digit_value}
+use Rattle.std.specs.Char.{is_ascii_hexdigit, digit_value}
 use Rattle.std.proofs.lemmas.Bool.{and_parts, and_from, ltb-true, leb-true, eqb-false, lt-ltb, not_from_false, or_cases}
 use Rattle.std.proofs.lemmas.Nat.{or_lt}
 use Rattle.share_base.specs.declared.numbers.KeyId.{KeyId}
@@ -13,8 +13,8 @@ use Rattle.modifier_map.specs.declared.class.ModClass.TheVariants as class
 use Rattle.modifier_map.specs.Table.{row}
 use Rattle.text_lines.specs.declared.bytes.WordKind.TheVariants as word_kind
 use Rattle.text_lines.specs.Bytes.{takes}
-use Rattle.text_lines.specs.Numbers.{digits_from, decimal_of}
-use Rattle.text_lines.specs.Reading.{◌>>=◌, Text, run_at, maybe_sign_at, is_empty}
+use Rattle.text_lines.specs.Numbers.{decimal_of}
+use Rattle.text_lines.specs.Reading.{◌>>=◌, Text, run_at, maybe_sign_at}
 use Rattle.text_lines.proofs.DecimalsSpelled.{decimal_within}
 use Rattle.hotkey_rules.specs.KeyNames.{NamedKey, named_keys, key_of_name, row as row_of}
 use Rattle.hotkey_rules.proofs.KeyRows.{named}

@@ -1,15 +1,14 @@
 -- One word of a hotkey's line, with the gap behind it: what a run of bytes takes, and how a chain of readers is taken apart.
-use Rattle.std.proofs.Common.{◌≡◌, ℕ, Bool, true, false, cond, ◌==◌, List, [], ◌∷◌, ◌++◌, length, Some, None, Result, Ok, Err, refl, ap, sym, subst, ◌∙◌}
+use Rattle.std.proofs.Common.{◌≡◌, ℕ, Bool, true, false, List, ◌∷◌, ◌++◌, length, Some, Result, Ok, Err, refl, ap, sym, ◌∙◌}
 use Rattle.std.specs.List.{find}
 use Rattle.std.specs.Str.{bytes_eq}
-use Rattle.std.proofs.lemmas.Bool.{eqb-true, eq-eqb}
 use Rattle.std.proofs.lemmas.Slice.Eq.{bytes_eq-Decides}
 use Rattle.text_lines.specs.declared.bytes.WordKind.{WordKind}
 use Rattle.text_lines.specs.Bytes.{takes, behind, is_tight, unblanked}
-use Rattle.text_lines.specs.Reading.{run_at, maybe_sign_at, begins}
-use Rattle.text_lines.specs.Spelling.{IsRun, IsGap}
+use Rattle.text_lines.specs.Reading.{run_at}
+use Rattle.text_lines.specs.Spelling.{IsRun}
 use Rattle.text_lines.proofs.MaybeSigns.{begun}
-use Rattle.text_lines.proofs.SpelledWords.{Gap, Sign, Breaks, has_no_blank, run_takes, gap_of, gap_again, gap_breaks, front_again, behind_again}
+use Rattle.text_lines.proofs.SpelledWords.{Breaks, has_no_blank, run_takes, gap_again, gap_breaks, front_again, behind_again}
 use Rattle.text_lines.proofs.WordsAgain.{text_of}
 use Rattle.hotkey_rules.proofs.FirstFound.{found_listed}
 use Rattle.hotkey_text.specs.declared.faults.HotkeyFault.{HotkeyFault}

@@ -1,5 +1,5 @@
 -- All faults of the words in a hotkey's line, from the left. Each list of bytes here is the line from there on.
-use Rattle.std.specs.Prelude.{ℕ, ◌≤◌, Bool, true, false, not, ◌&&◌, ◌||◌, if◌then◌else◌, List, [], ◌∷◌, ◌++◌, length, Result, Ok, Err, Option, Some, None, is_some}
+use Rattle.std.specs.Prelude.{ℕ, ◌≤◌, Bool, true, false, not, ◌&&◌, ◌||◌, List, [], ◌∷◌, ◌++◌, length, Result, Ok, Err, Option, Some, None, is_some}
 use Rattle.std.specs.List.{flat_map, list_any}
 use Rattle.share_base.specs.Names.{same_name}
 use Rattle.share_base.specs.Sides.{side_named}
@@ -19,7 +19,7 @@ use Rattle.hotkey_text.specs.Names.{action_named}
 use Rattle.hotkey_text.specs.LockModes.{lock_named}
 use Rattle.hotkey_text.specs.Keys.{key_named}
 use Rattle.hotkey_text.specs.Chords.{class_named, allowed, button_of}
-use Rattle.hotkey_text.specs.ChordWords.{ChordWords, chord_words}
+use Rattle.hotkey_text.specs.ChordWords.{chord_words}
 use Rattle.hotkey_text.specs.Shapes.{ActionForm, HotkeyForm, has_some}
 use Rattle.hotkey_text.specs.Arguments.{ScreenText, ActionText, Key, Mouse, Lock, SwitchTo, SwitchToward}
 

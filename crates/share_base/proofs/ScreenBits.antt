@@ -1,5 +1,5 @@
 -- One bit of the number that stands for a set of screens.
-use Rattle.std.proofs.Common.{◌≡◌, ℕ, ◌*◌, ◌/◌, ◌%◌, ◌^◌, ◌<◌, Bool, true, false, min, eqb, ◌||◌, ◌&&◌, not, refl, sym, ap, ◌∙◌, arith, subst, inl, inr, w64, bit_and, bit_or}
+use Rattle.std.proofs.Common.{◌≡◌, ℕ, ◌*◌, ◌/◌, ◌%◌, ◌^◌, ◌<◌, Bool, false, min, eqb, ◌||◌, ◌&&◌, not, sym, ap, ◌∙◌, arith, subst, inl, inr, w64, bit_and, bit_or}
 use Rattle.std.specs.Int.{bit_at, bit_not}
 use Rattle.std.proofs.Math.Bool.{or-true, or-false, and-true, and-false}
 use Rattle.std.proofs.lemmas.Bool.{cases_lt}
