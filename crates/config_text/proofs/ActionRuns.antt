@@ -14,7 +14,8 @@ use Rattle.hotkey_text.specs.declared.names.Deed.TheVariants as deed
 use Rattle.hotkey_text.specs.Shapes.{ActionForm, HotkeyForm}
 use Rattle.hotkey_text.specs.Arguments as words
 use Rattle.hotkey_text.specs.Spelled.{is_trigger}
-use Rattle.hotkey_text.proofs.SpelledWords.{went, are_words, trigger_spelled, words_spelled}
+use Rattle.hotkey_text.proofs.SpelledWords.{are_words, trigger_spelled, words_spelled}
+use Rattle.hotkey_text.proofs.WordSteps.{went}
 use Rattle.config_text.specs.declared.faults.Fault.{Fault}
 use Rattle.config_text.specs.declared.faults.ConfigKind.TheVariants as kind
 use Rattle.config_text.specs.declared.faults.LineFault.{LineFault}

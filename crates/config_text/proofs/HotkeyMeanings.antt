@@ -7,7 +7,7 @@ use Rattle.hotkey_text.specs.Shapes.{ActionForm, HotkeyForm}
 use Rattle.hotkey_text.specs.Arguments as words
 use Rattle.hotkey_text.proofs.SpelledActions.{action_takes, action_read}
 use Rattle.hotkey_text.proofs.SpelledTriggers.{trigger_takes, trigger_read}
-use Rattle.hotkey_text.proofs.SpelledWords.{went}
+use Rattle.hotkey_text.proofs.WordSteps.{went}
 use Rattle.config_text.proofs.ActionRuns.{words_judged}
 use Rattle.config_text.specs.declared.faults.ConfigKind.{ConfigKind}
 use Rattle.config_text.specs.declared.faults.ConfigKind.TheVariants as kind

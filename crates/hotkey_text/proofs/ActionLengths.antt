@@ -1,5 +1,5 @@
 -- Printed triggers and actions are short.
-use Rattle.std.proofs.Common.{◌≡◌, ℕ, ◌+◌, ◌*◌, ◌<◌, ◌≤◌, Bool, true, false, List, [], ◌∷◌, ◌++◌, length, Option, Some, None, nat_lt, nat_le, refl, sym, subst, length-append, arith}
+use Rattle.std.proofs.Common.{◌≡◌, ℕ, ◌+◌, ◌*◌, ◌<◌, ◌≤◌, Bool, true, false, List, [], ◌∷◌, ◌++◌, length, Option, Some, None, nat_lt, nat_le, refl, length-append, arith}
 use Rattle.std.specs.Prelude.{codes}
 use Rattle.std.specs.List.{flat_map}
 use Rattle.std.specs.Fmt.{decimal}
@@ -9,13 +9,10 @@ use Rattle.share_base.specs.declared.numbers.KeyId.{KeyId}
 use Rattle.share_base.specs.declared.numbers.Mask.{Mask}
 use Rattle.share_base.specs.declared.numbers.MouseButton.{MouseButton}
 use Rattle.share_base.specs.declared.shape.Side.{Side}
-use Rattle.share_base.specs.declared.shape.Side.TheVariants as side
 use Rattle.share_base.specs.Sides.{side_text}
 use Rattle.modifier_map.specs.declared.class.ModClass.{ModClass}
-use Rattle.modifier_map.specs.declared.class.ModClass.TheVariants as class
 use Rattle.modifier_map.specs.Table.{all_classes}
 use Rattle.hotkey_rules.specs.declared.action.LockMode.{LockMode}
-use Rattle.hotkey_rules.specs.declared.action.LockMode.TheVariants as lock
 use Rattle.hotkey_rules.specs.declared.action.Action.{Action}
 use Rattle.hotkey_rules.specs.declared.action.Action.TheVariants as action
 use Rattle.hotkey_rules.specs.declared.trigger.Trigger.{Trigger}
@@ -31,8 +28,7 @@ use Rattle.hotkey_text.specs.LockModes.{lock_word}
 use Rattle.hotkey_text.specs.Names.{action_word}
 use Rattle.hotkey_text.specs.Printed.{name_or_number, key_text, mod_text, mods_text, key_chord_text, mouse_chord_text, call_text, trigger_text, action_text}
 use Rattle.hotkey_text.specs.Spelled.{is_mouse_button, are_mods, is_mouse_chord, is_trigger, is_action}
-use Rattle.hotkey_text.proofs.ArgumentBytes.{listed_passes}
-use Rattle.hotkey_text.proofs.ActionsAgain.{name_in, argument_in, action_is}
+use Rattle.hotkey_text.proofs.WordsFound.{listed_passes, each_name, each_class, each_mode, each_side}
 
 -- ---- a key, or a button of the mouse, behind modifiers
 
@@ -53,11 +49,7 @@ unfolding key_text
 key_short id = named_short (name_of_key id) id refl
 
 class_short : (c : ModClass) → length (class_word c ++ codes "+") ≤ 8
-class_short class.Shift = omega arith
-class_short class.Control = omega arith
-class_short class.Alt = omega arith
-class_short class.Meta = omega arith
-class_short class.Super = omega arith
+class_short c = leb-true _ 8 (each_class (λ c. nat_le (length (class_word c ++ codes "+")) 8) refl c)
 
 mod_short : (t : Bool) (mods : Mask) (c : ModClass) → has_class mods c ≡ t → length (mod_text mods c) ≤ 8
 unfolding mod_text
@@ -84,15 +76,7 @@ mouse_chord_short b mods h =
 -- ---- WORD(ARGUMENT)
 
 word_short : (n : ActionName) → length (action_word n) ≤ 18
-word_short (name.Key deed.Stroke) = omega arith
-word_short (name.Key deed.Press) = omega arith
-word_short (name.Key deed.Release) = omega arith
-word_short (name.Mouse deed.Stroke) = omega arith
-word_short (name.Mouse deed.Press) = omega arith
-word_short (name.Mouse deed.Release) = omega arith
-word_short name.Lock = omega arith
-word_short name.SwitchTo = omega arith
-word_short name.SwitchToward = omega arith
+word_short n = leb-true _ 18 (each_name (λ n. nat_le (length (action_word n)) 18) refl n)
 
 call_short : (n : ActionName) (argument : List ℕ) → length (call_text n argument) ≤ 20 + length argument
 unfolding call_text
@@ -104,28 +88,19 @@ trigger_short (trigger.Key id mods) h = omega (arith, call_short (name.Key deed.
 trigger_short (trigger.Mouse b mods) h = omega (arith, call_short (name.Mouse deed.Stroke) (mouse_chord_text b mods), mouse_chord_short b mods h)
 
 lock_short : (m : LockMode) → length (lock_word m) ≤ 6
-lock_short lock.On = omega arith
-lock_short lock.Off = omega arith
-lock_short lock.Toggle = omega arith
+lock_short m = leb-true _ 6 (each_mode (λ m. nat_le (length (lock_word m)) 6) refl m)
 
 pub side_short : (s : Side) → length (side_text s) ≤ 5
-side_short side.Left = omega arith
-side_short side.Right = omega arith
-side_short side.Up = omega arith
-side_short side.Down = omega arith
-
-argument_short : (a : Action) (screen : List ℕ) → is_action a ≡ true → length screen ≤ 255 → length (argument_in a screen) ≤ 255
-argument_short (action.KeyStroke id mods button) screen h s = omega (arith, key_chord_short id mods)
-argument_short (action.KeyPress id mods button) screen h s = omega (arith, key_chord_short id mods)
-argument_short (action.KeyRelease id mods button) screen h s = omega (arith, key_chord_short id mods)
-argument_short (action.MouseClick mods b) screen h s = omega (arith, mouse_chord_short b mods h)
-argument_short (action.MousePress mods b) screen h s = omega (arith, mouse_chord_short b mods h)
-argument_short (action.MouseRelease mods b) screen h s = omega (arith, mouse_chord_short b mods h)
-argument_short (action.Lock mode) screen h s = omega (arith, lock_short mode)
-argument_short (action.SwitchTo number) screen h s = s
-argument_short (action.SwitchToward toward) screen h s = omega (arith, side_short toward)
+side_short s = leb-true _ 5 (each_side (λ s. nat_le (length (side_text s)) 5) refl s)
 
 -- an action, with a screen's name that is short
 pub action_short : (a : Action) (screen : List ℕ) → is_action a ≡ true → length screen ≤ 255 → length (action_text a screen) ≤ 275
-action_short a screen h s =
-    subst (λ (text : List ℕ). length text ≤ 275) (sym (action_is a screen)) (omega (arith, call_short (name_in a) (argument_in a screen), argument_short a screen h s))
+action_short (action.KeyStroke id mods button) screen h s = omega (arith, call_short (name.Key deed.Stroke) (key_chord_text id mods), key_chord_short id mods)
+action_short (action.KeyPress id mods button) screen h s = omega (arith, call_short (name.Key deed.Press) (key_chord_text id mods), key_chord_short id mods)
+action_short (action.KeyRelease id mods button) screen h s = omega (arith, call_short (name.Key deed.Release) (key_chord_text id mods), key_chord_short id mods)
+action_short (action.MouseClick mods b) screen h s = omega (arith, call_short (name.Mouse deed.Stroke) (mouse_chord_text b mods), mouse_chord_short b mods h)
+action_short (action.MousePress mods b) screen h s = omega (arith, call_short (name.Mouse deed.Press) (mouse_chord_text b mods), mouse_chord_short b mods h)
+action_short (action.MouseRelease mods b) screen h s = omega (arith, call_short (name.Mouse deed.Release) (mouse_chord_text b mods), mouse_chord_short b mods h)
+action_short (action.Lock mode) screen h s = omega (arith, call_short name.Lock (lock_word mode), lock_short mode)
+action_short (action.SwitchTo number) screen h s = omega (arith, call_short name.SwitchTo screen)
+action_short (action.SwitchToward toward) screen h s = omega (arith, call_short name.SwitchToward (side_text toward), side_short toward)

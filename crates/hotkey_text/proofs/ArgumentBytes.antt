@@ -1,17 +1,14 @@
 -- The bytes of printed arguments.
 use Rattle.std.proofs.Common.{◌≡◌, ℕ, ◌+◌, ◌/◌, ◌%◌, ◌^◌, ◌<◌, Bool, true, false, not, ◌&&◌, ◌||◌, ◌==◌, nat_le, List, [], ◌∷◌, ◌++◌, Option, Some, None, refl, ap, sym, ◌∙◌, arith}
-use Rattle.std.specs.Prelude.{Contains}
 use Rattle.std.specs.List.{list_all, flat_map}
 use Rattle.std.specs.Fmt.{decimal}
-use Rattle.std.proofs.lemmas.Bool.{agree_below, agree_below_at, and_parts, leb-true, not-true}
-use Rattle.std.proofs.lemmas.Option.{slice_get-get_or}
+use Rattle.std.proofs.lemmas.Bool.{agree_below, agree_below_at, and_parts, leb-true}
 use Rattle.share_base.specs.declared.numbers.KeyId.{KeyId}
 use Rattle.share_base.specs.declared.numbers.Mask.{Mask}
-use Rattle.share_base.proofs.ListTests.{all_append, all_at}
+use Rattle.share_base.proofs.ListTests.{all_append}
 use Rattle.modifier_map.specs.declared.class.ModClass.{ModClass}
-use Rattle.modifier_map.specs.declared.class.ModClass.TheVariants as class
 use Rattle.text_lines.specs.declared.bytes.WordKind.TheVariants as kind
-use Rattle.text_lines.specs.Bytes.{takes, unblanked}
+use Rattle.text_lines.specs.Bytes.{takes, is_tight}
 use Rattle.text_lines.proofs.CleanWords as clean
 use Rattle.text_lines.proofs.NumbersAgain.{all_digits}
 use Rattle.hotkey_rules.specs.KeyNames.{NamedKey, row, named_keys, name_of_key}
@@ -20,6 +17,7 @@ use Rattle.hotkey_text.specs.Keys.{is_plain}
 use Rattle.hotkey_text.specs.Chords.{class_word, has_class}
 use Rattle.hotkey_text.specs.Printed.{digit_text, coded_text, name_or_number, key_text, mod_text}
 use Rattle.hotkey_text.specs.Again.{is_argument_byte}
+use Rattle.hotkey_text.proofs.WordsFound.{listed_passes, each_class}
 
 -- ---- tests of bytes
 
@@ -61,14 +59,11 @@ chord_taken = each_byte is_chord_byte (takes kind.Chord) chord_below refl
 
 -- ---- a printed key
 
-pub listed_passes : {A : Type 0} (p : A → Bool) (xs : List A) (x : A) → list_all p xs ≡ true → Contains xs x → p x ≡ true
-listed_passes p xs x all listed = all_at p xs listed.0 x all (slice_get-get_or xs listed.0 x listed.1 ∙ ap (λ y. Some y) listed.2)
-
 pub name_chord : (id : KeyId) (name : List ℕ) → name_of_key id ≡ Some name → list_all is_chord_byte name ≡ true
 unfolding named_keys
 name_chord id name e = listed_passes (λ (k : NamedKey). list_all is_chord_byte k.name) named_keys (row name id.0) refl (has_name id name e)
 
-plain_below : (b : ℕ) → is_plain b ≡ true → b < 127
+pub plain_below : (b : ℕ) → is_plain b ≡ true → b < 127
 plain_below b h = omega (arith, leb-true b 126 (and_parts (nat_le 33 b) (nat_le b 126) (and_parts (nat_le 33 b && nat_le b 126) _ h).0).1)
 
 plain_chord : (b : ℕ) → is_plain b ≡ true → is_chord_byte b ≡ true
@@ -99,19 +94,8 @@ number_bytes n h = all_digits is_chord_byte (λ d k. agree_below_at (λ d. is_ch
 
 -- ---- printed modifiers
 
-pub class_taken : (c : ModClass) → list_all (takes kind.Chord) (class_word c) ≡ true
-class_taken class.Shift = refl
-class_taken class.Control = refl
-class_taken class.Alt = refl
-class_taken class.Meta = refl
-class_taken class.Super = refl
-
 class_bytes : (c : ModClass) → list_all is_argument_byte (class_word c ++ 43 ∷ []) ≡ true
-class_bytes class.Shift = refl
-class_bytes class.Control = refl
-class_bytes class.Alt = refl
-class_bytes class.Meta = refl
-class_bytes class.Super = refl
+class_bytes = each_class (λ c. list_all is_argument_byte (class_word c ++ 43 ∷ [])) refl
 
 mod_by : (t : Bool) (mods : Mask) (c : ModClass) → has_class mods c ≡ t → list_all is_argument_byte (mod_text mods c) ≡ true
 unfolding mod_text
@@ -122,8 +106,6 @@ pub mods_bytes : (mods : Mask) (cs : List ModClass) → list_all is_argument_byt
 mods_bytes mods [] = refl
 mods_bytes mods (c ∷ cs) = all_append is_argument_byte (mod_text mods c) (flat_map (mod_text mods) cs) (mod_by (has_class mods c) mods c refl) (mods_bytes mods cs)
 
--- ---- an argument goes to the )
-
-pub argument_tight : (xs rest : List ℕ) → list_all is_argument_byte xs ≡ true → unblanked (xs ++ 41 ∷ rest) ≡ xs ++ 41 ∷ rest
-argument_tight [] rest h = refl
-argument_tight (b ∷ bs) rest h = rw (not-true _ (argument_solid b (and_parts (is_argument_byte b) (list_all is_argument_byte bs) h).0)) refl
+pub argument_tight : (xs : List ℕ) → list_all is_argument_byte xs ≡ true → is_tight xs ≡ true
+argument_tight [] h = refl
+argument_tight (b ∷ bs) h = argument_solid b (and_parts (is_argument_byte b) (list_all is_argument_byte bs) h).0

@@ -7,7 +7,7 @@ use Rattle.text_lines.specs.Bytes.{takes}
 use Rattle.text_lines.specs.Reading.{◌>>=◌, Text, run_at, maybe_sign_at}
 use Rattle.hotkey_text.specs.declared.faults.HotkeyFault.{HotkeyFault}
 use Rattle.hotkey_text.specs.Chords.{class_named, has_class, with_class, with_modifier, or_last_word, mods_within}
-use Rattle.hotkey_text.proofs.SpelledWords.{there}
+use Rattle.hotkey_text.proofs.WordSteps.{there}
 use Rattle.hotkey_text.proofs.FreeClasses.{grown, free, grown_small, new_takes_one}
 
 -- the class of a word's name, which the mask doesn't have

@@ -1,15 +1,16 @@
 -- A mask with one class more, and the classes that a mask doesn't have.
 use Rattle.std.proofs.Common.{◌≡◌, ◌≢◌, ℕ, suc, ◌+◌, ◌<◌, Bool, true, false, not, ◌||◌, ◌==◌, List, [], ◌∷◌, refl, ap, sym, ◌∙◌}
-use Rattle.std.specs.Prelude.{bit_and, bit_or}
+use Rattle.std.specs.Prelude.{bit_and, bit_or, nat_lt}
+use Rattle.std.specs.List.{list_all}
 use Rattle.std.proofs.lemmas.Nat.{or_lt, and_or_apart}
-use Rattle.std.proofs.lemmas.Bool.{agree_below_at, both_ways, eqb-true}
+use Rattle.std.proofs.lemmas.Bool.{agree_below, agree_below_at, both_ways, eqb-true, ltb-true, not-true}
 use Rattle.share_base.specs.declared.numbers.Mask.{Mask}
 use Rattle.modifier_map.specs.declared.class.ModClass.{ModClass}
 use Rattle.modifier_map.specs.declared.class.ModClass.TheVariants as class
 use Rattle.modifier_map.specs.Table.{row, all_classes}
 use Rattle.hotkey_text.specs.Chords.{mask, has_class}
 use Rattle.hotkey_text.specs.SpellingWords.{IsNone}
-use Rattle.hotkey_text.proofs.SpelledWords.{bit_small}
+use Rattle.hotkey_text.proofs.WordsFound.{each_class}
 
 abbrev pub grown : Mask → ModClass → Mask
 grown m c = mask (bit_or m.0 (row c).bit)
@@ -28,6 +29,9 @@ free m = free_of all_classes m
 
 -- ---- one class more, in each mask
 
+bit_small : (c : ModClass) → (row c).bit < 32
+bit_small c = ltb-true (row c).bit 32 (each_class (λ c. nat_lt (row c).bit 32) refl c)
+
 pub grown_small : (m : Mask) (c : ModClass) → m.0 < 32 → (grown m c).0 < 32
 grown_small m c h = or_lt 5 m.0 (row c).bit h (bit_small c)
 
@@ -40,26 +44,9 @@ takes_one c m = has_class (mask m) c || (free (mask m) == suc (free (grown (mask
 abbrev is_kept : ModClass → ℕ → Bool
 is_kept c m = has_class (grown (mask m) c) c
 
-each_adds : (c : ModClass) (m : ℕ) → m < 32 → adds c m ≡ true
-each_adds class.Shift m h = agree_below_at (adds class.Shift) (λ m. true) 32 m refl h
-each_adds class.Control m h = agree_below_at (adds class.Control) (λ m. true) 32 m refl h
-each_adds class.Alt m h = agree_below_at (adds class.Alt) (λ m. true) 32 m refl h
-each_adds class.Meta m h = agree_below_at (adds class.Meta) (λ m. true) 32 m refl h
-each_adds class.Super m h = agree_below_at (adds class.Super) (λ m. true) 32 m refl h
-
-each_takes_one : (c : ModClass) (m : ℕ) → m < 32 → takes_one c m ≡ true
-each_takes_one class.Shift m h = agree_below_at (takes_one class.Shift) (λ m. true) 32 m refl h
-each_takes_one class.Control m h = agree_below_at (takes_one class.Control) (λ m. true) 32 m refl h
-each_takes_one class.Alt m h = agree_below_at (takes_one class.Alt) (λ m. true) 32 m refl h
-each_takes_one class.Meta m h = agree_below_at (takes_one class.Meta) (λ m. true) 32 m refl h
-each_takes_one class.Super m h = agree_below_at (takes_one class.Super) (λ m. true) 32 m refl h
-
-each_is_kept : (c : ModClass) (m : ℕ) → m < 32 → is_kept c m ≡ true
-each_is_kept class.Shift m h = agree_below_at (is_kept class.Shift) (λ m. true) 32 m refl h
-each_is_kept class.Control m h = agree_below_at (is_kept class.Control) (λ m. true) 32 m refl h
-each_is_kept class.Alt m h = agree_below_at (is_kept class.Alt) (λ m. true) 32 m refl h
-each_is_kept class.Meta m h = agree_below_at (is_kept class.Meta) (λ m. true) 32 m refl h
-each_is_kept class.Super m h = agree_below_at (is_kept class.Super) (λ m. true) 32 m refl h
+-- what a table of all classes and masks passes
+each_pair : (p : ModClass → ℕ → Bool) → agree_below (λ m. list_all (λ c. p c m) all_classes) (λ m. true) 32 ≡ true → (c : ModClass) (m : ℕ) → m < 32 → p c m ≡ true
+each_pair p table c m h = each_class (λ c. p c m) (agree_below_at (λ m. list_all (λ c. p c m) all_classes) (λ m. true) 32 m table h) c
 
 -- of two tests the second passes, where the first doesn't
 second : (t u : Bool) → t ≡ false → (t || u) ≡ true → u ≡ true
@@ -68,13 +55,13 @@ second false u e h = h
 
 -- a new class adds its bit, and leaves one free class less
 pub new_adds : (m : Mask) (c : ModClass) → m.0 < 32 → has_class m c ≡ false → (grown m c).0 ≡ m.0 + (row c).bit
-new_adds m c h new = eqb-true _ _ (second (has_class m c) _ new (each_adds c m.0 h))
+new_adds m c h new = eqb-true _ _ (second (has_class m c) _ new (each_pair adds refl c m.0 h))
 
 pub new_takes_one : (m : Mask) (c : ModClass) → m.0 < 32 → has_class m c ≡ false → free m ≡ suc (free (grown m c))
-new_takes_one m c h new = eqb-true _ _ (second (has_class m c) _ new (each_takes_one c m.0 h))
+new_takes_one m c h new = eqb-true _ _ (second (has_class m c) _ new (each_pair takes_one refl c m.0 h))
 
 pub new_there : (m : Mask) (c : ModClass) → m.0 < 32 → has_class (grown m c) c ≡ true
-new_there m c h = each_is_kept c m.0 h
+new_there m c h = each_pair is_kept refl c m.0 h
 
 -- the bits of two classes have nothing in common
 bits_apart : (c d : ModClass) → c ≢ d → bit_and (row c).bit (row d).bit ≡ 0
@@ -111,11 +98,7 @@ new_behind m c (d ∷ cs) apart new = (others_stay m c d apart.0 ∙ new.0, new_
 
 -- each class is new where there is none
 pub none_there : (c : ModClass) → has_class (mask 0) c ≡ false
-none_there class.Shift = refl
-none_there class.Control = refl
-none_there class.Alt = refl
-none_there class.Meta = refl
-none_there class.Super = refl
+none_there c = not-true _ (each_class (λ c. not (has_class (mask 0) c)) refl c)
 
 pub all_new : (cs : List ModClass) → AreNew (mask 0) cs
 all_new [] = tt

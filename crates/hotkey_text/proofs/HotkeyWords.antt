@@ -16,7 +16,7 @@ use Rattle.hotkey_text.specs.declared.names.TriggerKind.TheVariants as trigger
 use Rattle.hotkey_text.specs.Names.{trigger_word, trigger_named}
 use Rattle.hotkey_text.specs.Shapes.{is_hotkey}
 use Rattle.hotkey_text.specs.Spelling.{BeginsHotkey}
-use Rattle.hotkey_text.proofs.ActionsAgain.{trigger_known}
+use Rattle.hotkey_text.proofs.WordsFound.{trigger_found}
 
 -- a word that is a trigger's
 pub trigger_takes : (word : List ℕ) (k : TriggerKind) → trigger_named word ≡ Some k → word ≡ trigger_word k
@@ -58,6 +58,6 @@ hotkey_taken xs b =
       e,
       front_again (takes kind.Key) (trigger_word b.of) tail word.1 breaks,
       behind_again (takes kind.Key) (trigger_word b.of) tail word.1 breaks,
-      trigger_known b.of,
+      trigger_found b.of,
       gap_again b.behind_word (40 ∷ b.rest) b.gap refl,
     ) refl

@@ -1,6 +1,5 @@
 pub mod ActionLengths
 pub mod ActionLists
-pub mod ActionsAgain
 pub mod ArgumentBytes
 pub mod ChordsAgain
 pub mod EnoughTurns
@@ -12,8 +11,8 @@ pub mod HotkeyWords
 pub mod KeysAgain
 pub mod LineBytes
 pub mod LinesAgain
-pub mod ListsAgain
 pub mod ModSteps
+pub mod PrintedActions
 pub mod SpelledActions
 pub mod SpelledArguments
 pub mod SpelledBrackets

@@ -18,21 +18,14 @@ use Rattle.hotkey_text.specs.Printed.{key_chord_text, mouse_chord_text, call_tex
 use Rattle.hotkey_text.specs.Spelled.{is_trigger}
 use Rattle.hotkey_text.specs.Again.{is_argument_byte, is_spelled, texts_of}
 use Rattle.hotkey_text.proofs.ArgumentBytes.{argument_plain, argument_solid}
-use Rattle.hotkey_text.proofs.ActionsAgain.{name_in, argument_in, action_is, argument_bytes, trigger_bytes}
-use Rattle.hotkey_text.proofs.ListsAgain.{are_spelled}
+use Rattle.hotkey_text.proofs.LinesAgain.{are_spelled}
+use Rattle.hotkey_text.proofs.PrintedActions.{call_of, trigger_bytes}
+use Rattle.hotkey_text.proofs.WordsFound.{each_name}
 
 -- ---- WORD(ARGUMENT)
 
 word_bytes : (n : ActionName) → list_all is_argument_byte (action_word n ++ 40 ∷ []) ≡ true
-word_bytes (name.Key deed.Stroke) = refl
-word_bytes (name.Key deed.Press) = refl
-word_bytes (name.Key deed.Release) = refl
-word_bytes (name.Mouse deed.Stroke) = refl
-word_bytes (name.Mouse deed.Press) = refl
-word_bytes (name.Mouse deed.Release) = refl
-word_bytes name.Lock = refl
-word_bytes name.SwitchTo = refl
-word_bytes name.SwitchToward = refl
+word_bytes = each_name (λ n. list_all is_argument_byte (action_word n ++ 40 ∷ [])) refl
 
 -- what each byte of arguments passes, and the bracket, too
 call_all : (p : ℕ → Bool) (n : ActionName) (argument : List ℕ) → ((b : ℕ) → is_argument_byte b ≡ true → p b ≡ true) → p 41 ≡ true → list_all is_argument_byte argument ≡ true
@@ -53,7 +46,7 @@ call_clean n argument all =
     clean_solid (call_text n argument) (call_all is_plain n argument argument_plain refl all) (call_all is_solid n argument argument_solid refl all) (call_some n argument)
 
 action_clean : (a : Action) (screen : List ℕ) → is_spelled a screen ≡ true → IsClean (action_text a screen)
-action_clean a screen h = subst IsClean (sym (action_is a screen)) (call_clean (name_in a) (argument_in a screen) (argument_bytes a screen h))
+action_clean a screen h = let c = call_of a screen h in subst IsClean (sym c.is) (call_clean c.name c.argument c.bytes)
 
 trigger_clean : (t : Trigger) → is_trigger t ≡ true → IsClean (trigger_text t)
 trigger_clean (trigger.Key id mods) h = call_clean (name.Key deed.Stroke) (key_chord_text id mods) (trigger_bytes (trigger.Key id mods) h)

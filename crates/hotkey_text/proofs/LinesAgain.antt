@@ -1,99 +1,131 @@
--- The printed line of a hotkey is read again.
-use Rattle.std.proofs.Common.{◌≡◌, ℕ, Bool, true, ◌||◌, List, [], ◌∷◌, ◌++◌, Ok, refl, ap, ◌∙◌, append_assoc}
+-- The printed line of a hotkey is spelled so, and is read again.
+use Rattle.std.proofs.Common.{◌≡◌, ℕ, Bool, true, false, ◌||◌, List, [], ◌∷◌, ◌++◌, refl, ap, sym, ◌∙◌, ◌⊎◌, inl, inr, append_assoc, append-nil}
 use Rattle.std.specs.Prelude.{codes}
-use Rattle.text_lines.specs.declared.bytes.WordKind.TheVariants as kind
-use Rattle.text_lines.specs.Bytes.{takes, unblanked}
-use Rattle.text_lines.specs.Reading.{sign_at}
-use Rattle.text_lines.proofs.WordsAgain.{front_is, behind_is, word_again}
+use Rattle.std.specs.List.{list_all}
+use Rattle.std.proofs.lemmas.Bool.{and_parts}
+use Rattle.text_lines.specs.Reading.{begins}
 use Rattle.hotkey_rules.specs.declared.action.Action.{Action}
 use Rattle.hotkey_rules.specs.declared.trigger.Trigger.{Trigger}
 use Rattle.hotkey_text.specs.Names.{trigger_word}
-use Rattle.hotkey_text.specs.Shapes.{ActionForm, HotkeyForm, is_hotkey, hotkey_at, press_at, release_at, has_some}
-use Rattle.hotkey_text.specs.Arguments.{trigger_of}
-use Rattle.hotkey_text.specs.Printed.{trigger_text, between, with_commas, hotkey_text}
+use Rattle.hotkey_text.specs.Shapes.{ActionForm, HotkeyForm, has_some}
+use Rattle.hotkey_text.specs.Printed.{action_text, trigger_text, between, and_further, with_commas, hotkey_text}
 use Rattle.hotkey_text.specs.Spelled.{is_trigger}
-use Rattle.hotkey_text.specs.Again.{texts_of, ReadsAs}
-use Rattle.hotkey_text.proofs.ActionsAgain.{kind_in, trigger_argument, trigger_is, trigger_bytes, trigger_again, trigger_known, trigger_taken, trigger_some, argument_at_again}
-use Rattle.hotkey_text.proofs.ListsAgain.{are_spelled, forms, have_words, ending, lists_text, lists_tight, press_again, has_sign, release_again}
+use Rattle.hotkey_text.specs.Spelling.{SpellsFurther, SpellsList, SpellsRelease, SpellsHotkey}
+use Rattle.hotkey_text.specs.Again.{is_spelled, HaveWordsOf, texts_of, ReadsAs}
+use Rattle.hotkey_text.proofs.HotkeyWords.{hotkey_taken}
+use Rattle.hotkey_text.proofs.PrintedActions.{action_printed, brackets_spelled, kind_in, trigger_argument, trigger_is, trigger_bytes, chord_spelled}
+use Rattle.hotkey_text.proofs.SpelledHotkeys.{hotkey_again}
+use Rattle.hotkey_text.proofs.SpelledTriggers.{trigger_read}
 
--- ---- the line, from its trigger's word on
+-- ---- lists of actions
 
-abbrev behind_argument : List ℕ → List ℕ
-behind_argument lists = 32 ∷ 61 ∷ 32 ∷ lists
+abbrev pub are_spelled : (Action → List ℕ) → List Action → Bool
+are_spelled screen actions = list_all (λ a. is_spelled a (screen a)) actions
 
-abbrev from_word : Trigger → List ℕ → List ℕ
-from_word t lists = trigger_word (kind_in t) ++ 40 ∷ (trigger_argument t ++ 41 ∷ behind_argument lists)
+further_printed : (screen : Action → List ℕ) (actions : List Action) (rest : List ℕ) → are_spelled screen actions ≡ true
+    → (forms : List ActionForm) × SpellsFurther (and_further (texts_of screen actions) ++ rest) forms rest × HaveWordsOf screen actions forms
+further_printed screen [] rest h = ([], refl, tt)
+further_printed screen (a ∷ actions) rest h =
+    let parts = and_parts (is_spelled a (screen a)) (are_spelled screen actions) h in
+    let behind = and_further (texts_of screen actions) ++ rest in
+    let here = action_text a (screen a) ++ behind in
+    let one = action_printed here a (screen a) behind refl parts.0 in
+    let more = further_printed screen actions rest parts.1 in (
+      one.form ∷ more.0,
+      record {
+        behind_comma = codes " ";
+        here = here;
+        rest = behind;
+        text = append_assoc (codes ", " ++ action_text a (screen a)) (and_further (texts_of screen actions)) rest;
+        gap = refl;
+        action = one.spelled;
+        others = more.1;
+      },
+      (one.words, more.2),
+    )
+
+-- a list is spelled, begins with no ; and has as many actions
+record PrintedList (xs : List ℕ) (screen : Action → List ℕ) (actions : List Action) (rest : List ℕ) : Type 0 where
+  forms : List ActionForm
+  spelled : SpellsList xs forms rest
+  words : HaveWordsOf screen actions forms
+  some : has_some forms ≡ has_some (texts_of screen actions)
+  first : (forms ≡ []) ⊎ (begins 59 xs ≡ false)
+
+list_printed : (screen : Action → List ℕ) (actions : List Action) (rest : List ℕ) → are_spelled screen actions ≡ true
+    → PrintedList (with_commas (texts_of screen actions) ++ rest) screen actions rest
+list_printed screen [] rest h = record { forms = []; spelled = refl; words = tt; some = refl; first = inl refl }
+list_printed screen (a ∷ actions) rest h =
+    let parts = and_parts (is_spelled a (screen a)) (are_spelled screen actions) h in
+    let text = with_commas (texts_of screen (a ∷ actions)) ++ rest in
+    let behind = and_further (texts_of screen actions) ++ rest in
+    let one = action_printed text a (screen a) behind (append_assoc (action_text a (screen a)) (and_further (texts_of screen actions)) rest) parts.0 in
+    let more = further_printed screen actions rest parts.1 in
+    record { forms = one.form ∷ more.0; spelled = (behind, one.spelled, more.1); words = (one.words, more.2); some = refl; first = inr one.no_sign }
+
+-- what stands behind the press list: a ; where nothing is pressed
+record PrintedEnd (xs : List ℕ) (screen : Action → List ℕ) (pressed : Bool) (release : List Action) : Type 0 where
+  released : Bool
+  forms : List ActionForm
+  spelled : SpellsRelease xs released forms
+  words : HaveWordsOf screen release forms
+  some : (released || pressed) ≡ true
+
+abbrev ending : (Action → List ℕ) → Bool → List Action → List ℕ
+ending screen pressed release = between pressed (has_some (texts_of screen release)) ++ with_commas (texts_of screen release)
+
+end_printed : (screen : Action → List ℕ) (pressed : Bool) (release : List Action) → are_spelled screen release ≡ true → PrintedEnd (ending screen pressed release) screen pressed release
+end_printed screen true [] h = record { released = false; forms = []; spelled = (refl, refl); words = tt; some = refl }
+end_printed screen false [] h = record { released = true; forms = []; spelled = ([], [], refl, refl, refl); words = tt; some = refl }
+end_printed screen pressed (a ∷ release) h =
+    let text = with_commas (texts_of screen (a ∷ release)) in
+    let l = list_printed screen (a ∷ release) [] h in
+    record {
+      released = true;
+      forms = l.forms;
+      spelled = (codes " ", text ++ [], ap (λ (t : List ℕ). codes "; " ++ t) (sym (append-nil text)), refl, l.spelled);
+      words = l.words;
+      some = refl;
+    }
+
+-- ---- the line
 
 grouped : (t e p b q : List ℕ) → (((t ++ e) ++ p) ++ b) ++ q ≡ t ++ (e ++ (p ++ (b ++ q)))
 grouped t e p b q = simp append_assoc
 
-line_is : (t : Trigger) (screen : Action → List ℕ) (press release : List Action)
-    → hotkey_text (trigger_text t) (texts_of screen press) (texts_of screen release) ≡ from_word t (lists_text screen press release)
-unfolding hotkey_text
-line_is t screen press release =
-    grouped (trigger_text t) (codes " = ") (with_commas (texts_of screen press)) (between (has_some (texts_of screen press)) (has_some (texts_of screen release))) (with_commas (texts_of screen release))
-    ∙ trigger_is t (behind_argument (lists_text screen press release))
-
--- ---- its form
-
-abbrev line_of : Trigger → List ℕ → List ActionForm → Bool → List ActionForm → HotkeyForm
-line_of t lists press released release =
-    record { kind = kind_in t; argument = trigger_argument t ++ 41 ∷ behind_argument lists; press = press; released = released; release = release }
-
-line_by : (t : Trigger) (lists rest : List ℕ) (press : List ActionForm) (released : Bool) (release : List ActionForm) → is_trigger t ≡ true → unblanked lists ≡ lists
-    → press_at lists ≡ Ok (press, rest) → release_at rest ≡ Ok (released, release) → hotkey_at (from_word t lists) ≡ Ok (line_of t lists press released release)
-unfolding hotkey_at sign_at
-line_by t lists rest press released release h tight p r =
-    rw (
-      word_again (takes kind.Key) (trigger_word (kind_in t)) (40 ∷ (trigger_argument t ++ 41 ∷ behind_argument lists)) (trigger_some (kind_in t)) (trigger_taken (kind_in t)) refl,
-      trigger_known (kind_in t),
-      argument_at_again (trigger_argument t) (behind_argument lists) (trigger_bytes t h),
-      tight,
-      p,
-      r,
-    ) refl
-
-is_hotkey_again : (t : Trigger) (lists : List ℕ) → is_hotkey (from_word t lists) ≡ true
-is_hotkey_again t lists =
-    let rest = 40 ∷ (trigger_argument t ++ 41 ∷ behind_argument lists) in
-    rw (
-      front_is (takes kind.Key) (trigger_word (kind_in t)) rest (trigger_taken (kind_in t)) refl,
-      behind_is (takes kind.Key) (trigger_word (kind_in t)) rest (trigger_taken (kind_in t)) refl,
-      trigger_known (kind_in t),
-    ) refl
-
--- ---- what it means
-
-some_form : (screen : Action → List ℕ) (actions : List Action) (rest : List ℕ) → has_some (forms screen actions rest) ≡ has_some actions
-some_form screen [] rest = refl
-some_form screen (a ∷ actions) rest = refl
-
-has_part : (press release : List Action) → (has_sign press release || has_some press) ≡ true
-has_part [] [] = refl
-has_part [] (q ∷ release) = refl
-has_part (a ∷ press) [] = refl
-has_part (a ∷ press) (q ∷ release) = refl
-
-means_trigger : (t : Trigger) (screen : Action → List ℕ) (press release : List Action) (lists rest : List ℕ) (others : List ActionForm) → is_trigger t ≡ true
-    → trigger_of (line_of t lists (forms screen press rest) (has_sign press release) others) ≡ Ok t
-unfolding trigger_of
-means_trigger t screen press release lists rest others h =
-    rw (trigger_again t (behind_argument lists) h, some_form screen press rest, has_part press release) refl
-
--- ---- all of it
-
 pub line_again : (t : Trigger) (screen : Action → List ℕ) (press release : List Action) → is_trigger t ≡ true → are_spelled screen press ≡ true → are_spelled screen release ≡ true
     → ReadsAs (hotkey_text (trigger_text t) (texts_of screen press) (texts_of screen release)) screen t press release
+unfolding hotkey_text
 line_again t screen press release h p r =
-    let lists = lists_text screen press release in
-    let rest = ending screen press release in
-    let same = line_is t screen press release in
+    let pressed = has_some (texts_of screen press) in
+    let second = ending screen pressed release in
+    let lists = with_commas (texts_of screen press) ++ second in
+    let argument = trigger_argument t ++ 41 ∷ (codes " = " ++ lists) in
+    let text = hotkey_text (trigger_text t) (texts_of screen press) (texts_of screen release) in
+    let is : text ≡ trigger_word (kind_in t) ++ 40 ∷ argument =
+    grouped (trigger_text t) (codes " = ") (with_commas (texts_of screen press)) (between pressed (has_some (texts_of screen release))) (with_commas (texts_of screen release)) ∙ trigger_is t (codes " = " ++ lists) in
+    let down = list_printed screen press second p in
+    let up = end_printed screen pressed release r in
+    let line : HotkeyForm = record { kind = kind_in t; argument = argument; press = down.forms; released = up.released; release = up.forms } in
+    let some : (up.released || has_some down.forms) ≡ true = ap (λ (s : Bool). up.released || s) down.some ∙ up.some in
+    let spelled : SpellsHotkey text line = record {
+      behind_word = [];
+      brackets = 40 ∷ argument;
+      behind_sign = codes " ";
+      lists = lists;
+      second = second;
+      text = is;
+      argument = brackets_spelled (trigger_argument t) (codes " ") (61 ∷ 32 ∷ lists) (trigger_bytes t h) refl;
+      press = down.spelled;
+      release = up.spelled;
+      first = down.first;
+      gaps = (refl, refl);
+    } in
     record {
-      line = line_of t lists (forms screen press rest) (has_sign press release) (forms screen release []);
-      hotkey = ap is_hotkey same ∙ is_hotkey_again t lists;
-      read = ap hotkey_at same ∙ line_by t lists rest (forms screen press rest) (has_sign press release) (forms screen release []) h
-          (lists_tight screen press release) (press_again screen press release p) (release_again screen press release r);
-      trigger = means_trigger t screen press release lists rest (forms screen release []) h;
-      press = have_words screen press rest p;
-      release = have_words screen release [] r;
+      line = line;
+      hotkey = hotkey_taken text (record { of = kind_in t; behind_word = []; rest = argument; text = is; gap = refl });
+      read = hotkey_again text line spelled;
+      trigger = trigger_read line t (chord_spelled t (codes " = " ++ lists) h, some);
+      press = down.words;
+      release = up.words;
     }

@@ -13,7 +13,7 @@ use Rattle.hotkey_text.specs.Arguments.{ActionText, Key, Mouse, Lock, SwitchTo, 
 use Rattle.hotkey_text.specs.SpellingWords.{SpellsArgument, SpellsWords}
 use Rattle.hotkey_text.proofs.WordsFound.{action_found}
 use Rattle.hotkey_text.proofs.WordSteps.{table_word}
-use Rattle.hotkey_text.proofs.SpelledWords.{went, there}
+use Rattle.hotkey_text.proofs.WordSteps.{went, there}
 use Rattle.hotkey_text.proofs.SpelledChords.{key_chord_takes, key_chord_read, mouse_chord_takes, mouse_chord_read}
 use Rattle.hotkey_text.proofs.SpelledArguments.{lock_takes, lock_read, side_takes, side_read, screen_takes, screen_read}
 

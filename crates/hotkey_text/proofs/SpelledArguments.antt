@@ -1,10 +1,9 @@
 -- The words behind an action's name are read exactly where they are spelled: a mode of the lock, a side, a screen.
 use Rattle.std.proofs.Common.{◌≡◌, ℕ, cond, not, List, [], ◌∷◌, ◌++◌, length, Option, Some, None, Result, Ok, refl, ap, sym, subst, ◌∙◌, take-append-drop}
-use Rattle.std.specs.List.{prefix_len}
+use Rattle.std.specs.List.{list_all, prefix_len}
 use Rattle.std.proofs.lemmas.Bool.{not-true}
 use Rattle.std.proofs.lemmas.List.{append_cancel_left}
 use Rattle.share_base.specs.declared.shape.Side.{Side}
-use Rattle.share_base.specs.declared.shape.Side.TheVariants as side
 use Rattle.share_base.specs.Sides.{side_text, sides, side_named}
 use Rattle.share_base.proofs.SideWords.{side_found}
 use Rattle.text_lines.specs.declared.bytes.WordKind.TheVariants as word_kind
@@ -22,9 +21,9 @@ use Rattle.hotkey_text.specs.LockModes.{lock_word, lock_named}
 use Rattle.hotkey_text.specs.Chords.{closed_at}
 use Rattle.hotkey_text.specs.Arguments.{ScreenText, lock_at, side_at, screen_at}
 use Rattle.hotkey_text.specs.SpellingWords.{SpellsLast, SpellsScreen}
-use Rattle.hotkey_text.proofs.WordsFound.{lock_found}
+use Rattle.hotkey_text.proofs.WordsFound.{lock_found, each_mode, each_side}
 use Rattle.hotkey_text.proofs.WordSteps.{table_word, test_passed, word_made, last_made, word_read}
-use Rattle.hotkey_text.proofs.SpelledWords.{went, there}
+use Rattle.hotkey_text.proofs.WordSteps.{went, there}
 
 abbrev choice_run : List ℕ → Text × List ℕ
 choice_run xs = run_at (takes word_kind.Choice) xs
@@ -42,9 +41,7 @@ lock_takes xs m e =
     subst (λ (x : LockMode). SpellsLast xs (lock_word x)) same (subst (SpellsLast xs) is (last_made (takes word_kind.Choice) xs close.0 close.1))
 
 lock_bytes : (m : LockMode) → IsRun (takes word_kind.Choice) (lock_word m)
-lock_bytes lock.On = refl
-lock_bytes lock.Off = refl
-lock_bytes lock.Toggle = refl
+lock_bytes = each_mode (λ m. list_all (takes word_kind.Choice) (lock_word m)) refl
 
 abbrev lock_from : Text × List ℕ → Result LockMode HotkeyFault
 lock_from word = or_fault (lock_named word.0.text) kind.BadValue word.0.left >>= λ mode. closed_at word.1 >>= λ u. Ok mode
@@ -66,10 +63,7 @@ side_takes xs s e =
     subst (λ (x : Side). SpellsLast xs (side_text x)) same (subst (SpellsLast xs) is (last_made (takes word_kind.Choice) xs close.0 close.1))
 
 side_bytes : (s : Side) → IsRun (takes word_kind.Choice) (side_text s)
-side_bytes side.Left = refl
-side_bytes side.Right = refl
-side_bytes side.Up = refl
-side_bytes side.Down = refl
+side_bytes = each_side (λ s. list_all (takes word_kind.Choice) (side_text s)) refl
 
 abbrev side_from : Text × List ℕ → Result Side HotkeyFault
 side_from word = or_fault (side_named word.0.text) kind.BadValue word.0.left >>= λ s. closed_at word.1 >>= λ u. Ok s

@@ -29,7 +29,7 @@ use Rattle.hotkey_text.specs.Chords.{mask, mods_at, closed_at, allowed, key_chor
 use Rattle.hotkey_text.specs.SpellingWords.{SpellsMods, SpellsLast, AreApart, bits_of, SpellsKeyChord, SpellsMouseChord}
 use Rattle.hotkey_text.proofs.ArgumentBytes.{is_chord_byte, chord_taken, number_bytes}
 use Rattle.hotkey_text.proofs.WordSteps.{last_made, word_read}
-use Rattle.hotkey_text.proofs.SpelledWords.{went, there}
+use Rattle.hotkey_text.proofs.WordSteps.{went, there}
 use Rattle.hotkey_text.proofs.SpelledMods.{mods_take, mods_again}
 
 -- ---- modifiers and a last word
@@ -68,14 +68,14 @@ no_key : key_named [] ≡ None
 unfolding key_named key_of_name named_keys same_name
 no_key = refl
 
-key_word_some : (word : List ℕ) (id : KeyId) → key_named word ≡ Some id → 0 < length word
+pub key_word_some : (word : List ℕ) (id : KeyId) → key_named word ≡ Some id → 0 < length word
 key_word_some [] id e = let none = no_key in absurd cc
 key_word_some (b ∷ bs) id e = omega arith
 
-abbrev MayBe : Bool → KeyId → Type 0
+abbrev pub MayBe : Bool → KeyId → Type 0
 MayBe modifiers id = (modifiers ≡ true) ⊎ (is_modifier_key id ≡ false)
 
-may_be : (modifiers : Bool) (id : KeyId) → (not modifiers && is_modifier_key id) ≡ false → MayBe modifiers id
+pub may_be : (modifiers : Bool) (id : KeyId) → (not modifiers && is_modifier_key id) ≡ false → MayBe modifiers id
 may_be true id e = inl refl
 may_be false id e = inr e
 

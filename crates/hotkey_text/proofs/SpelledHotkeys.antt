@@ -9,7 +9,7 @@ use Rattle.hotkey_text.specs.declared.names.TriggerKind.{TriggerKind}
 use Rattle.hotkey_text.specs.Names.{trigger_word, trigger_named}
 use Rattle.hotkey_text.specs.Shapes.{ActionForm, HotkeyForm, argument_at, list_at, press_at, release_at, hotkey_at}
 use Rattle.hotkey_text.specs.Spelling.{SpellsBrackets, SpellsList, SpellsRelease, SpellsHotkey}
-use Rattle.hotkey_text.proofs.ActionsAgain.{trigger_known}
+use Rattle.hotkey_text.proofs.WordsFound.{trigger_found}
 use Rattle.hotkey_text.proofs.HotkeyWords.{trigger_takes, trigger_is_word}
 use Rattle.hotkey_text.proofs.SpelledBrackets.{Argument, argument_takes, argument_again}
 use Rattle.hotkey_text.proofs.SpelledLists.{action_there, list_there, list_takes, list_tight, list_again, actions_again}
@@ -141,4 +141,4 @@ hotkey_again xs line h =
     let end = second_is h.second line.released line.release h.release in
     let sign = sign_again 61 h.behind_sign h.lists h.gaps.1 (list_tight h.lists line.press h.second h.press end.tight) in
     let press = press_again h.lists line.press h.second line.released line.release (record { spelled = h.press; first = h.first }) h.release in
-    rw (e, word, trigger_known line.kind, argument_again h.brackets line.argument signed h.argument refl, sign, press, release_again h.second line.released line.release h.release) refl
+    rw (e, word, trigger_found line.kind, argument_again h.brackets line.argument signed h.argument refl, sign, press, release_again h.second line.released line.release h.release) refl

@@ -1,15 +1,14 @@
 -- Modifiers are read exactly where they are spelled, each once.
-use Rattle.std.proofs.Common.{◌≡◌, ℕ, zero, suc, ◌+◌, ◌<◌, ◌≤◌, true, false, List, [], ◌∷◌, ◌++◌, length, map, Option, Some, None, Ok, refl, ap, sym, subst, ◌∙◌, inl, inr, add-zero, add_assoc, arith}
+use Rattle.std.proofs.Common.{◌≡◌, ℕ, zero, suc, ◌+◌, ◌<◌, ◌≤◌, true, false, List, [], ◌∷◌, ◌++◌, length, map, Option, Some, None, Ok, refl, ap, sym, subst, ◌∙◌, inl, inr, add-zero, add_assoc, nat_lt, arith}
 use Rattle.std.specs.List.{find, list_all}
 use Rattle.std.specs.Char.{to_ascii_lowercase}
 use Rattle.std.specs.Str.{bytes_eq}
-use Rattle.std.proofs.lemmas.Bool.{agree_below_at, cases_lt, le-ltb, and_parts, and_from}
+use Rattle.std.proofs.lemmas.Bool.{agree_below_at, cases_lt, le-ltb, ltb-true, and_parts, and_from}
 use Rattle.std.proofs.lemmas.List.{length-map}
 use Rattle.std.proofs.lemmas.Slice.Eq.{bytes_eq-Decides}
 use Rattle.share_base.specs.Names.{same_name}
 use Rattle.share_base.specs.declared.numbers.Mask.{Mask}
 use Rattle.modifier_map.specs.declared.class.ModClass.{ModClass}
-use Rattle.modifier_map.specs.declared.class.ModClass.TheVariants as class
 use Rattle.modifier_map.specs.Table.{row, all_classes}
 use Rattle.text_lines.specs.declared.bytes.WordKind.TheVariants as kind
 use Rattle.text_lines.specs.Bytes.{takes, is_tight}
@@ -22,11 +21,11 @@ use Rattle.hotkey_text.specs.Chords.{mask, class_word, class_named, has_class, w
 use Rattle.hotkey_text.specs.SpellingWords.{SpellsMod, SpellsMods, AreApart, bits_of}
 use Rattle.text_lines.proofs.MaybeSigns.{maybe_sign_takes, maybe_sign_again}
 use Rattle.hotkey_text.proofs.WordSteps.{word_made, word_read}
-use Rattle.hotkey_text.proofs.SpelledWords.{went}
+use Rattle.hotkey_text.proofs.WordSteps.{went}
 use Rattle.hotkey_text.proofs.ModSteps.{last_word, one_modifier}
 use Rattle.hotkey_text.proofs.EnoughTurns.{Turn, new_class, next_fewer}
 use Rattle.hotkey_text.proofs.FreeClasses.{grown, free, AreNew, all_new, grown_small, new_adds, new_takes_one, new_before, new_behind}
-use Rattle.hotkey_text.proofs.WordsFound.{class_found}
+use Rattle.hotkey_text.proofs.WordsFound.{class_found, each_class}
 
 -- ---- names of classes
 
@@ -68,11 +67,7 @@ all_small (b ∷ bs) h =
     and_from (takes kind.Chord b) (list_all (takes kind.Chord) bs) (sym (small_taken b) ∙ e.0) (all_small bs e.1)
 
 class_bytes : (c : ModClass) → IsWord (takes kind.Chord) (lower (class_word c))
-class_bytes class.Shift = (omega arith, refl)
-class_bytes class.Control = (omega arith, refl)
-class_bytes class.Alt = (omega arith, refl)
-class_bytes class.Meta = (omega arith, refl)
-class_bytes class.Super = (omega arith, refl)
+class_bytes c = (ltb-true 0 _ (each_class (λ c. nat_lt 0 (length (lower (class_word c)))) refl c), each_class (λ c. list_all (takes kind.Chord) (lower (class_word c))) refl c)
 
 called_bytes : (word : List ℕ) (c : ModClass) → same_name (class_word c) word ≡ true → IsWord (takes kind.Chord) word
 called_bytes word c h =

@@ -15,7 +15,7 @@ use Rattle.hotkey_text.specs.Shapes.{HotkeyForm, has_some}
 use Rattle.hotkey_text.specs.Arguments.{trigger_at, trigger_of}
 use Rattle.hotkey_text.specs.SpellingWords.{SpellsChord, SpellsTrigger}
 use Rattle.hotkey_text.proofs.WordSteps.{test_passed}
-use Rattle.hotkey_text.proofs.SpelledWords.{went}
+use Rattle.hotkey_text.proofs.WordSteps.{went}
 use Rattle.hotkey_text.proofs.SpelledChords.{key_chord_takes, key_chord_read, mouse_chord_takes, mouse_chord_read}
 
 chord_takes : (of : TriggerKind) (xs : List ℕ) (t : Trigger) → trigger_at of xs ≡ Ok t → SpellsChord of xs t

@@ -10,7 +10,7 @@ use Rattle.hotkey_text.specs.declared.names.TriggerKind.{TriggerKind}
 use Rattle.hotkey_text.specs.Names.{trigger_word}
 use Rattle.hotkey_text.specs.Shapes.{HotkeyForm, argument_at, press_at, release_at, is_hotkey, hotkey_at}
 use Rattle.hotkey_text.specs.Spelling.{SpellsBrackets, SpellsHotkey, IsHotkey}
-use Rattle.hotkey_text.proofs.ActionsAgain.{trigger_known}
+use Rattle.hotkey_text.proofs.WordsFound.{trigger_found}
 use Rattle.hotkey_text.proofs.HotkeyWords.{trigger_is_word, hotkey_begins}
 use Rattle.hotkey_text.proofs.SpelledBrackets.{Argument, argument_takes, argument_again}
 use Rattle.hotkey_text.proofs.SpelledHotkeys.{hotkey_again}
@@ -32,7 +32,7 @@ behind_word k xs = argument_at xs >>= λ argument. sign_at 61 argument.1 >>= λ 
 word_read : (k : TriggerKind) (gap tail : List ℕ) → IsGap gap → hotkey_at (trigger_word k ++ (gap ++ 40 ∷ tail)) ≡ behind_word k (40 ∷ tail)
 unfolding hotkey_at
 word_read k gap tail g =
-    rw (word_gap_again (takes kind.Key) (trigger_word k) gap (40 ∷ tail) (trigger_is_word k) g (gap_breaks kind.Key refl gap (40 ∷ tail) g refl) refl, trigger_known k) refl
+    rw (word_gap_again (takes kind.Key) (trigger_word k) gap (40 ∷ tail) (trigger_is_word k) g (gap_breaks kind.Key refl gap (40 ∷ tail) g refl) refl, trigger_found k) refl
 
 -- the line stops there where its lists do
 lists_stuck : (k : TriggerKind) (argument xs : List ℕ) (n : ℕ) → both_lists xs ≡ Err n → behind_sign k argument xs ≡ Err n

@@ -1,11 +1,11 @@
 -- One word of a hotkey's line, with the gap behind it: what a run of bytes takes, and how a chain of readers is taken apart.
-use Rattle.std.proofs.Common.{◌≡◌, ℕ, Bool, true, false, List, ◌∷◌, ◌++◌, length, Some, Result, Ok, Err, refl, ap, sym, ◌∙◌}
+use Rattle.std.proofs.Common.{◌≡◌, ℕ, Bool, true, false, List, ◌∷◌, ◌++◌, length, Option, Some, None, Result, Ok, Err, refl, ap, sym, ◌∙◌}
 use Rattle.std.specs.List.{find}
 use Rattle.std.specs.Str.{bytes_eq}
 use Rattle.std.proofs.lemmas.Slice.Eq.{bytes_eq-Decides}
 use Rattle.text_lines.specs.declared.bytes.WordKind.{WordKind}
 use Rattle.text_lines.specs.Bytes.{takes, behind, is_tight, unblanked}
-use Rattle.text_lines.specs.Reading.{run_at}
+use Rattle.text_lines.specs.Reading.{◌>>=◌, run_at}
 use Rattle.text_lines.specs.Spelling.{IsRun}
 use Rattle.text_lines.proofs.MaybeSigns.{begun}
 use Rattle.text_lines.proofs.SpelledWords.{Breaks, has_no_blank, run_takes, gap_again, gap_breaks, front_again, behind_again}
@@ -13,9 +13,18 @@ use Rattle.text_lines.proofs.WordsAgain.{text_of}
 use Rattle.hotkey_rules.proofs.FirstFound.{found_listed}
 use Rattle.hotkey_text.specs.declared.faults.HotkeyFault.{HotkeyFault}
 use Rattle.hotkey_text.specs.declared.faults.HotkeyKind.{HotkeyKind}
-use Rattle.hotkey_text.specs.Faults.{unless}
+use Rattle.hotkey_text.specs.Faults.{unless, or_fault}
 use Rattle.hotkey_text.specs.Chords.{closed_at}
 use Rattle.hotkey_text.specs.SpellingWords.{SpellsWord, SpellsLast}
+
+-- a step that went well, and the one before it
+pub went : {A B E : Type 0} (r : Result A E) (f : A → Result B E) (b : B) → (r >>= f) ≡ Ok b → (a : A) × (r ≡ Ok a) × (f a ≡ Ok b)
+went (Ok a) f b e = (a, refl, e)
+went (Err x) f b e = absurd cc
+
+pub there : {A : Type 0} (o : Option A) (k : HotkeyKind) (left : ℕ) (a : A) → or_fault o k left ≡ Ok a → o ≡ Some a
+there (Some x) k left a e = let same : x ≡ a = cc in ap (λ y. Some y) same
+there None k left a e = absurd cc
 
 -- what a test says that went well
 pub test_passed : (t : Bool) (k : HotkeyKind) (left : ℕ) (u : Unit {0}) → unless t k left ≡ Ok u → t ≡ true

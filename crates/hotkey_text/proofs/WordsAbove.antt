@@ -13,7 +13,6 @@ use Rattle.share_base.specs.Names.{same_name}
 use Rattle.share_base.specs.declared.numbers.Mask.{Mask}
 use Rattle.share_base.proofs.SameNames.{same_name_swapped}
 use Rattle.modifier_map.specs.declared.class.ModClass.{ModClass}
-use Rattle.modifier_map.specs.declared.class.ModClass.TheVariants as class
 use Rattle.modifier_map.specs.Table.{all_classes}
 use Rattle.text_lines.specs.Reading.{Text}
 use Rattle.hotkey_rules.proofs.FirstFound.{found_listed}
@@ -21,17 +20,10 @@ use Rattle.hotkey_text.specs.declared.faults.HotkeyKind.TheVariants as kind
 use Rattle.hotkey_text.specs.Faults.{fault_at}
 use Rattle.hotkey_text.specs.Chords.{mask, class_word, class_named, has_class, with_modifier}
 use Rattle.hotkey_text.specs.FaultLists.{is_new_modifier}
-use Rattle.hotkey_text.proofs.ArgumentBytes.{listed_passes}
 use Rattle.hotkey_text.proofs.FreeClasses.{grown, free, grown_small, new_takes_one, none_there}
+use Rattle.hotkey_text.proofs.WordsFound.{each_class}
 
 -- ---- masks, one by one
-
-each_class : (p : ModClass → Bool) → list_all p all_classes ≡ true → (c : ModClass) → p c ≡ true
-each_class p h class.Shift = listed_passes p all_classes class.Shift h (0, omega arith, refl)
-each_class p h class.Control = listed_passes p all_classes class.Control h (1, omega arith, refl)
-each_class p h class.Alt = listed_passes p all_classes class.Alt h (2, omega arith, refl)
-each_class p h class.Meta = listed_passes p all_classes class.Meta h (3, omega arith, refl)
-each_class p h class.Super = listed_passes p all_classes class.Super h (4, omega arith, refl)
 
 same_bit : (a b : Bool) → beq a b ≡ true → a ≡ b
 same_bit true true h = refl
