@@ -1,9 +1,9 @@
 -- Printed triggers and actions are short.
-use Rattle.std.proofs.Common.{◌≡◌, ℕ, ◌+◌, ◌*◌, ◌<◌, ◌≤◌, Bool, true, false, List, [], ◌∷◌, ◌++◌, length, Option, Some, None, nat_lt, nat_le, refl, length-append, arith}
+use Rattle.std.proofs.Common.{◌≡◌, ℕ, ◌+◌, ◌*◌, ◌<◌, ◌≤◌, true, List, [], ◌∷◌, ◌++◌, length, Some, nat_lt, nat_le, refl, length-append, arith}
 use Rattle.std.specs.Prelude.{codes}
 use Rattle.std.specs.List.{flat_map}
 use Rattle.std.specs.Fmt.{decimal}
-use Rattle.std.proofs.lemmas.Bool.{and_parts, leb-true, ltb-true}
+use Rattle.std.proofs.lemmas.Bool.{and_parts, cond_both, leb-true, ltb-true}
 use Rattle.std.proofs.lemmas.Fmt.{length-decimal-le}
 use Rattle.share_base.specs.declared.numbers.KeyId.{KeyId}
 use Rattle.share_base.specs.declared.numbers.Mask.{Mask}
@@ -23,11 +23,11 @@ use Rattle.hotkey_text.specs.declared.names.Deed.TheVariants as deed
 use Rattle.hotkey_text.specs.declared.names.ActionName.{ActionName}
 use Rattle.hotkey_text.specs.declared.names.ActionName.TheVariants as name
 use Rattle.hotkey_text.specs.Chords.{class_word, has_class}
-use Rattle.hotkey_text.specs.Keys.{is_plain}
 use Rattle.hotkey_text.specs.LockModes.{lock_word}
 use Rattle.hotkey_text.specs.Names.{action_word}
-use Rattle.hotkey_text.specs.Printed.{name_or_number, key_text, mod_text, mods_text, key_chord_text, mouse_chord_text, call_text, trigger_text, action_text}
+use Rattle.hotkey_text.specs.Printed.{key_text, mod_text, mods_text, key_chord_text, mouse_chord_text, call_text, trigger_text, action_text}
 use Rattle.hotkey_text.specs.Spelled.{is_mouse_button, are_mods, is_mouse_chord, is_trigger, is_action}
+use Rattle.hotkey_text.proofs.KeysAgain.{key_text_by}
 use Rattle.hotkey_text.proofs.WordsFound.{listed_passes, each_name, each_class, each_mode, each_side}
 
 -- ---- a key, or a button of the mouse, behind modifiers
@@ -36,29 +36,19 @@ name_short : (id : KeyId) (text : List ℕ) → name_of_key id ≡ Some text →
 unfolding named_keys
 name_short id text e = leb-true (length text) 10 (listed_passes (λ (k : NamedKey). nat_le (length k.name) 10) named_keys (row text id.0) refl (has_name id text e))
 
-number_short : (t : Bool) (n : ℕ) → is_plain n ≡ t → length (name_or_number None n) ≤ 10
-number_short true n e = rw e (omega arith)
-number_short false n e = rw e (omega arith)
-
-named_short : (o : Option (List ℕ)) (id : KeyId) → name_of_key id ≡ o → length (name_or_number o id.0) ≤ 10
-named_short None id e = number_short (is_plain id.0) id.0 refl
-named_short (Some text) id e = name_short id text e
-
 key_short : (id : KeyId) → length (key_text id) ≤ 10
-unfolding key_text
-key_short id = named_short (name_of_key id) id refl
+key_short id = key_text_by (λ t. length t ≤ 10) id (name_short id) (λ p. omega arith) (omega arith)
 
 class_short : (c : ModClass) → length (class_word c ++ codes "+") ≤ 8
 class_short c = leb-true _ 8 (each_class (λ c. nat_le (length (class_word c ++ codes "+")) 8) refl c)
 
-mod_short : (t : Bool) (mods : Mask) (c : ModClass) → has_class mods c ≡ t → length (mod_text mods c) ≤ 8
+mod_short : (mods : Mask) (c : ModClass) → length (mod_text mods c) ≤ 8
 unfolding mod_text
-mod_short true mods c e = rw e (class_short c)
-mod_short false mods c e = rw e (omega arith)
+mod_short mods c = cond_both (has_class mods c) (class_word c ++ codes "+") [] (λ t. length t ≤ 8) (λ h. class_short c) (λ h. omega arith)
 
 each_mod_short : (mods : Mask) (cs : List ModClass) → length (flat_map (mod_text mods) cs) ≤ 8 * length cs
 each_mod_short mods [] = omega arith
-each_mod_short mods (c ∷ cs) = omega (arith, length-append (mod_text mods c) (flat_map (mod_text mods) cs), mod_short (has_class mods c) mods c refl, each_mod_short mods cs)
+each_mod_short mods (c ∷ cs) = omega (arith, length-append (mod_text mods c) (flat_map (mod_text mods) cs), mod_short mods c, each_mod_short mods cs)
 
 mods_short : (mods : Mask) → length (mods_text mods) ≤ 40
 unfolding mods_text

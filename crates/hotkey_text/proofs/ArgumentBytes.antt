@@ -1,8 +1,9 @@
 -- The bytes of printed arguments.
-use Rattle.std.proofs.Common.{◌≡◌, ℕ, ◌+◌, ◌/◌, ◌%◌, ◌^◌, ◌<◌, Bool, true, false, not, ◌&&◌, ◌||◌, ◌==◌, nat_le, List, [], ◌∷◌, ◌++◌, Option, Some, None, refl, ap, sym, ◌∙◌, arith}
+use Rattle.std.proofs.Common.{◌≡◌, ℕ, ◌+◌, ◌/◌, ◌%◌, ◌^◌, ◌<◌, Bool, true, not, ◌&&◌, ◌||◌, ◌==◌, List, [], ◌∷◌, ◌++◌, Some, refl, ap, sym, ◌∙◌, arith}
 use Rattle.std.specs.List.{list_all, flat_map}
 use Rattle.std.specs.Fmt.{decimal}
-use Rattle.std.proofs.lemmas.Bool.{agree_below, agree_below_at, and_parts, leb-true}
+use Rattle.std.proofs.lemmas.Bool.{agree_below, agree_below_at, and_parts, cond_both}
+use Rattle.std.proofs.lemmas.Bool.Decides.{nat_tests}
 use Rattle.share_base.specs.declared.numbers.KeyId.{KeyId}
 use Rattle.share_base.specs.declared.numbers.Mask.{Mask}
 use Rattle.share_base.proofs.ListTests.{all_append}
@@ -15,8 +16,9 @@ use Rattle.hotkey_rules.specs.KeyNames.{NamedKey, row, named_keys, name_of_key}
 use Rattle.hotkey_rules.proofs.KeyRows.{has_name}
 use Rattle.hotkey_text.specs.Keys.{is_plain}
 use Rattle.hotkey_text.specs.Chords.{class_word, has_class}
-use Rattle.hotkey_text.specs.Printed.{digit_text, coded_text, name_or_number, key_text, mod_text}
+use Rattle.hotkey_text.specs.Printed.{digit_text, coded_text, key_text, mod_text}
 use Rattle.hotkey_text.specs.Again.{is_argument_byte}
+use Rattle.hotkey_text.proofs.KeysAgain.{key_text_by}
 use Rattle.hotkey_text.proofs.WordsFound.{listed_passes, each_class}
 
 -- ---- tests of bytes
@@ -27,10 +29,8 @@ each_byte p q below table b h =
     let either : (not (p b) || q b) ≡ true = agree_below_at (λ b. not (p b) || q b) (λ b. true) 127 b table (below b h) in
     sym (ap (λ (t : Bool). not t || q b) h) ∙ either
 
-pub argument_below : (b : ℕ) → is_argument_byte b ≡ true → b < 127
-argument_below b h =
-    let range = and_parts (nat_le 33 b && nat_le b 126) (not ((b == 35) || (b == 41))) h in
-    omega (arith, leb-true b 126 (and_parts (nat_le 33 b) (nat_le b 126) range.0).1)
+argument_below : (b : ℕ) → is_argument_byte b ≡ true → b < 127
+argument_below b h = grind (arith, nat_tests)
 
 pub argument_plain : (b : ℕ) → is_argument_byte b ≡ true → clean.is_plain b ≡ true
 argument_plain = each_byte is_argument_byte clean.is_plain argument_below refl
@@ -59,12 +59,12 @@ chord_taken = each_byte is_chord_byte (takes kind.Chord) chord_below refl
 
 -- ---- a printed key
 
-pub name_chord : (id : KeyId) (name : List ℕ) → name_of_key id ≡ Some name → list_all is_chord_byte name ≡ true
+name_chord : (id : KeyId) (name : List ℕ) → name_of_key id ≡ Some name → list_all is_chord_byte name ≡ true
 unfolding named_keys
 name_chord id name e = listed_passes (λ (k : NamedKey). list_all is_chord_byte k.name) named_keys (row name id.0) refl (has_name id name e)
 
 pub plain_below : (b : ℕ) → is_plain b ≡ true → b < 127
-plain_below b h = omega (arith, leb-true b 126 (and_parts (nat_le 33 b) (nat_le b 126) (and_parts (nat_le 33 b && nat_le b 126) _ h).0).1)
+plain_below b h = grind (arith, nat_tests)
 
 plain_chord : (b : ℕ) → is_plain b ≡ true → is_chord_byte b ≡ true
 plain_chord = each_byte is_plain is_chord_byte plain_below refl
@@ -75,17 +75,8 @@ digit_chord d h = agree_below_at (λ d. is_chord_byte (digit_text d)) (λ d. tru
 coded_chord : (n : ℕ) → n < 65536 → list_all is_chord_byte (coded_text n) ≡ true
 coded_chord n h = rw (digit_chord (n / 4096) (omega arith), digit_chord (n / 256 % 16) (omega arith), digit_chord (n / 16 % 16) (omega arith), digit_chord (n % 16) (omega arith)) refl
 
-number_chord : (t : Bool) (n : ℕ) → is_plain n ≡ t → n < 65536 → list_all is_chord_byte (name_or_number None n) ≡ true
-number_chord true n e h = rw (e, plain_chord n e) refl
-number_chord false n e h = rw e (coded_chord n h)
-
-named_chord : (o : Option (List ℕ)) (id : KeyId) → name_of_key id ≡ o → id.0 < 65536 → list_all is_chord_byte (name_or_number o id.0) ≡ true
-named_chord None id e h = number_chord (is_plain id.0) id.0 refl h
-named_chord (Some name) id e h = name_chord id name e
-
 pub key_chord : (id : KeyId) → id.0 < 65536 → list_all is_chord_byte (key_text id) ≡ true
-unfolding key_text
-key_chord id h = named_chord (name_of_key id) id refl h
+key_chord id h = key_text_by (λ t. list_all is_chord_byte t ≡ true) id (name_chord id) (λ p. rw (plain_chord id.0 p) refl) (coded_chord id.0 h)
 
 -- ---- a printed number
 
@@ -97,15 +88,14 @@ number_bytes n h = all_digits is_chord_byte (λ d k. agree_below_at (λ d. is_ch
 class_bytes : (c : ModClass) → list_all is_argument_byte (class_word c ++ 43 ∷ []) ≡ true
 class_bytes = each_class (λ c. list_all is_argument_byte (class_word c ++ 43 ∷ [])) refl
 
-mod_by : (t : Bool) (mods : Mask) (c : ModClass) → has_class mods c ≡ t → list_all is_argument_byte (mod_text mods c) ≡ true
-unfolding mod_text
-mod_by true mods c e = rw e (class_bytes c)
-mod_by false mods c e = rw e refl
-
 pub mods_bytes : (mods : Mask) (cs : List ModClass) → list_all is_argument_byte (flat_map (mod_text mods) cs) ≡ true
+unfolding mod_text
 mods_bytes mods [] = refl
-mods_bytes mods (c ∷ cs) = all_append is_argument_byte (mod_text mods c) (flat_map (mod_text mods) cs) (mod_by (has_class mods c) mods c refl) (mods_bytes mods cs)
+mods_bytes mods (c ∷ cs) =
+    all_append is_argument_byte (mod_text mods c) (flat_map (mod_text mods) cs)
+    (cond_both (has_class mods c) (class_word c ++ 43 ∷ []) [] (λ t. list_all is_argument_byte t ≡ true) (λ h. class_bytes c) (λ h. refl)) (mods_bytes mods cs)
 
+-- no blank stands in front of it
 pub argument_tight : (xs : List ℕ) → list_all is_argument_byte xs ≡ true → is_tight xs ≡ true
 argument_tight [] h = refl
 argument_tight (b ∷ bs) h = argument_solid b (and_parts (is_argument_byte b) (list_all is_argument_byte bs) h).0

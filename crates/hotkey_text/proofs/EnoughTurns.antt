@@ -1,5 +1,6 @@
 -- More turns over modifiers than classes are left answer the same.
-use Rattle.std.proofs.Common.{◌≡◌, ℕ, zero, suc, ◌<◌, Bool, true, false, cond, List, Option, Some, None, Result, Ok, Err, refl, ap, subst, ◌∙◌, arith}
+use Rattle.std.proofs.Common.{◌≡◌, ℕ, zero, suc, ◌<◌, false, List, Option, Some, None, Result, Ok, Err, refl, ap, subst, ◌∙◌, arith}
+use Rattle.std.proofs.lemmas.Bool.{cond_both}
 use Rattle.share_base.specs.declared.numbers.Mask.{Mask}
 use Rattle.modifier_map.specs.declared.class.ModClass.{ModClass}
 use Rattle.text_lines.specs.declared.bytes.WordKind.TheVariants as word_kind
@@ -17,13 +18,10 @@ pub record NewClass (m : Mask) (word : List ℕ) (next : Mask) : Type 0 where
   pub new : has_class m class ≡ false
   pub with_it : grown m class ≡ next
 
-class_by : (t : Bool) (m : Mask) (word : List ℕ) (c : ModClass) (next : Mask) → has_class m c ≡ t → class_named word ≡ Some c → cond t None (Some (grown m c)) ≡ Some next → NewClass m word next
-class_by true m word c next e named h = absurd cc
-class_by false m word c next e named h = record { class = c; named = named; new = e; with_it = cc }
-
 class_of : (m : Mask) (word : List ℕ) (o : Option ModClass) (next : Mask) → class_named word ≡ o → with_class m o ≡ Some next → NewClass m word next
-class_of m word None next e h = absurd cc
-class_of m word (Some c) next e h = class_by (has_class m c) m word c next refl e h
+class_of m word None next e = λ h. absurd cc
+class_of m word (Some c) next e =
+    cond_both (has_class m c) None (Some (grown m c)) (λ r. r ≡ Some next → NewClass m word next) (λ t h. absurd cc) (λ t h. record { class = c; named = e; new = t; with_it = cc })
 
 pub new_class : (m : Mask) (word : Text) (next : Mask) → with_modifier m word ≡ Ok next → NewClass m word.text next
 unfolding with_modifier

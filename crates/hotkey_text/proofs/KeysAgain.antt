@@ -1,10 +1,10 @@
 -- Printed keys are read again.
-use Rattle.std.proofs.Common.{◌≡◌, ℕ, ◌+◌, ◌*◌, ◌/◌, ◌%◌, ◌<◌, Bool, true, false, not, ◌==◌, List, [], ◌∷◌, length, map, Option, Some, None, refl, ap, ◌∙◌, arith}
+use Rattle.std.proofs.Common.{◌≡◌, ℕ, ◌+◌, ◌*◌, ◌/◌, ◌%◌, ◌<◌, true, not, ◌==◌, List, [], ◌∷◌, length, map, Option, Some, None, refl, ap, ◌∙◌, arith}
 use Rattle.std.specs.Prelude.{slice_index}
 use Rattle.std.specs.List.{list_all}
 use Rattle.std.specs.Option.{option_map}
 use Rattle.std.specs.Char.{to_ascii_lowercase, is_ascii_hexdigit, digit_value}
-use Rattle.std.proofs.lemmas.Bool.{agree_below_at, eq-eqb, eqb-true, ne_eqb, both_ways, not-true, not_from_false, false_from_ne_true}
+use Rattle.std.proofs.lemmas.Bool.{agree_below_at, cond_both, eq-eqb, eqb-true, ne_eqb, both_ways, not-true, not_from_false, false_from_ne_true}
 use Rattle.std.proofs.lemmas.Slice.Eq.{bytes_eq-Decides}
 use Rattle.share_base.specs.Names.{same_name}
 use Rattle.share_base.specs.declared.numbers.KeyId.{KeyId}
@@ -72,16 +72,18 @@ coded_again n h k = rw (coded_no_name n) (number_again n h k)
 
 -- ---- a key
 
-by_number : (t : Bool) (n : ℕ) → is_plain n ≡ t → 0 < n → n < 65536 → key_named (name_or_number None n) ≡ Some (key_id n)
-by_number true n e h k = ap key_named (rw e refl) ∙ plain_again n e
-by_number false n e h k = ap key_named (rw e refl) ∙ coded_again n h k
+-- what holds of a key's name, of its character and of its number holds of its text
+pub key_text_by : (P : List ℕ → Type 0) (id : KeyId) → ((name : List ℕ) → name_of_key id ≡ Some name → P name) → (is_plain id.0 ≡ true → P (id.0 ∷ [])) → P (coded_text id.0) → P (key_text id)
+unfolding key_text
+key_text_by P id named plain coded = by (name_of_key id) refl where
+  by : (o : Option (List ℕ)) → name_of_key id ≡ o → P (name_or_number o id.0)
+  by None e = cond_both (is_plain id.0) (id.0 ∷ []) (coded_text id.0) P plain (λ h. coded)
+  by (Some name) e = named name e
 
-by_name : (o : Option (List ℕ)) (id : KeyId) → name_of_key id ≡ o → 0 < id.0 → id.0 < 65536 → key_named (name_or_number o id.0) ≡ Some id
+named_again : (id : KeyId) (name : List ℕ) → name_of_key id ≡ Some name → key_named name ≡ Some id
 unfolding key_named
-by_name None id e h k = by_number (is_plain id.0) id.0 refl h k
-by_name (Some name) id e h k = rw (id_back id name e) refl
+named_again id name e = rw (id_back id name e) refl
 
 -- the text of a key spells it again
 pub key_again : (id : KeyId) → 0 < id.0 → id.0 < 65536 → key_named (key_text id) ≡ Some id
-unfolding key_text
-key_again id h k = by_name (name_of_key id) id refl h k
+key_again id h k = key_text_by (λ t. key_named t ≡ Some id) id (named_again id) (plain_again id.0) (coded_again id.0 h k)

@@ -1,11 +1,12 @@
 -- Each text has words of modifiers, a last word and what follows it, in one way alone.
-use Rattle.std.proofs.Common.{◌≡◌, ℕ, zero, suc, ◌<◌, ◌≤◌, Bool, true, false, cond, ◌==◌, List, [], ◌∷◌, ◌++◌, length, length-append, Option, Some, None, refl, ap, sym, subst, ◌∙◌, arith}
-use Rattle.std.proofs.lemmas.Bool.{eqb-true}
+use Rattle.std.proofs.Common.{◌≡◌, ℕ, zero, suc, ◌<◌, ◌≤◌, Bool, true, false, List, [], ◌∷◌, ◌++◌, length, length-append, Option, Some, None, refl, ap, sym, subst, ◌∙◌, arith}
 use Rattle.text_lines.specs.declared.bytes.WordKind.TheVariants as word_kind
 use Rattle.text_lines.specs.Bytes.{takes, is_tight, unblanked, front, behind}
 use Rattle.text_lines.specs.Reading.{Text, run_at, maybe_sign_at, begins}
 use Rattle.text_lines.specs.Spelling.{IsGap}
-use Rattle.text_lines.proofs.SpelledWords.{Gap, gap_of, gap_again, Breaks, front_again, behind_again, run_takes}
+use Rattle.text_lines.proofs.MaybeSigns.{maybe_sign_takes, maybe_sign_again, other_there, no_maybe_sign}
+use Rattle.text_lines.proofs.SpelledWords.{gap_again, Breaks, front_again, behind_again, run_takes}
+use Rattle.text_lines.proofs.WordsAgain.{text_of}
 use Rattle.hotkey_text.specs.ChordWords.{ChordWords, with_mod, word_or_last, words_within, chord_words, SpellsPart, SpellsParts, SpellsChordWords}
 
 -- ---- a word
@@ -32,11 +33,8 @@ breaks_of : (p : ℕ → Bool) (tail : List ℕ) → ((b : ℕ) (bs : List ℕ) 
 breaks_of p [] h = tt
 breaks_of p (b ∷ bs) h = h b bs refl
 
-abbrev text_at : List ℕ → ℕ → Text
-text_at word left = record { text = word; left = left }
-
 abbrev text_before : List ℕ → ℕ → List ℕ → Text × List ℕ
-text_before word left rest = (text_at word left, rest)
+text_before word left rest = (text_of word left, rest)
 
 pub part_again : (xs : List ℕ) (word : Text) (rest : List ℕ) → SpellsPart xs word rest → chord_run xs ≡ (word, rest)
 part_again xs word rest h =
@@ -49,7 +47,7 @@ part_again xs word rest h =
     ∙ ap (λ (n : ℕ). text_before word.text n (unblanked (behind p xs))) (sym h.place)
     ∙ ap (λ (r : List ℕ). text_before word.text word.left r) rest_of
 
--- ---- a + behind it, or none
+-- ---- a + behind it
 
 pub record Plus (xs rest : List ℕ) : Type 0 where
   pub gap : List ℕ
@@ -57,35 +55,10 @@ pub record Plus (xs rest : List ℕ) : Type 0 where
   pub blank : IsGap gap
   pub tight : is_tight rest ≡ true
 
-plus_by : (t : Bool) (b : ℕ) (bs rest : List ℕ) → (b == 43) ≡ t → cond t (Some (unblanked bs)) None ≡ Some rest → Plus (b ∷ bs) rest
-plus_by true b bs rest e h =
-    let same : unblanked bs ≡ rest = cc in
-    let g = subst (λ (r : List ℕ). Gap bs r) same (gap_of bs) in
-    record { gap = g.gap; parts = ap (λ n. n ∷ bs) (eqb-true b 43 e) ∙ ap (λ (t : List ℕ). 43 ∷ t) g.parts; blank = g.blank; tight = g.tight }
-plus_by false b bs rest e h = absurd cc
-
 pub plus_there : (xs rest : List ℕ) → maybe_sign_at 43 xs ≡ Some rest → Plus xs rest
-unfolding maybe_sign_at
-plus_there [] rest h = absurd cc
-plus_there (b ∷ bs) rest h = plus_by (b == 43) b bs rest refl h
-
-pub plus_again : (gap rest : List ℕ) → IsGap gap → is_tight rest ≡ true → maybe_sign_at 43 (43 ∷ (gap ++ rest)) ≡ Some rest
-unfolding maybe_sign_at
-plus_again gap rest h t = ap Some (gap_again gap rest h t)
-
-none_by : (t : Bool) (bs : List ℕ) → cond t (Some bs) None ≡ None → t ≡ false
-none_by true bs h = absurd cc
-none_by false bs h = refl
-
-pub no_plus : (xs : List ℕ) → maybe_sign_at 43 xs ≡ None → begins 43 xs ≡ false
-unfolding maybe_sign_at
-no_plus [] h = refl
-no_plus (b ∷ bs) h = none_by (b == 43) (unblanked bs) h
-
-pub none_again : (xs : List ℕ) → begins 43 xs ≡ false → maybe_sign_at 43 xs ≡ None
-unfolding maybe_sign_at
-none_again [] h = refl
-none_again (b ∷ bs) h = rw h refl
+plus_there xs rest h =
+    let s = maybe_sign_takes 43 xs rest h in
+    record { gap = s.gap.gap; parts = s.parts ∙ ap (λ (t : List ℕ). 43 ∷ t) s.gap.parts; blank = s.gap.blank; tight = s.gap.tight }
 
 -- a word with a + behind it is longer than what follows them
 pub plus_shorter : (xs : List ℕ) (word : Text) (gap rest : List ℕ) → SpellsPart xs word (43 ∷ (gap ++ rest)) → length rest < length xs
@@ -106,7 +79,7 @@ AreSpelled n = (xs : List ℕ) → length xs ≤ n → SpellsChordWords xs (word
 
 spelled_then : (n : ℕ) (xs : List ℕ) (o : Option (List ℕ)) → AreSpelled n → length xs ≤ suc n → maybe_sign_at 43 (chord_run xs).1 ≡ o
     → SpellsChordWords xs (word_or_last (words_within n) (chord_run xs) o)
-spelled_then n xs None again h e = record { here = xs; mods = refl; last = part_of xs; none = no_plus (chord_run xs).1 e }
+spelled_then n xs None again h e = record { here = xs; mods = refl; last = part_of xs; none = other_there 43 (chord_run xs).1 e }
 spelled_then n xs (Some rest) again h e =
     let plus = plus_there (chord_run xs).1 rest e in
     let part = subst (λ (r : List ℕ). SpellsPart xs (chord_run xs).0 r) plus.parts (part_of xs) in
@@ -138,14 +111,14 @@ unfolding words_within
 last_within zero xs last rest h e = ap (λ (p : Text × List ℕ). chord_of [] p.0 p.1) (part_again xs last rest h)
 last_within (suc n) xs last rest h e =
     ap (λ (p : Text × List ℕ). word_or_last (words_within n) p (maybe_sign_at 43 p.1)) (part_again xs last rest h)
-    ∙ ap (word_or_last (words_within n) (last, rest)) (none_again rest e)
+    ∙ ap (word_or_last (words_within n) (last, rest)) (no_maybe_sign 43 rest e)
 
 more_within : (n : ℕ) (xs : List ℕ) (word : Text) (gap rest : List ℕ) → SpellsPart xs word (43 ∷ (gap ++ rest)) → IsGap gap → is_tight rest ≡ true
     → words_within (suc n) xs ≡ with_mod word (words_within n rest)
 unfolding words_within
 more_within n xs word gap rest h g t =
     ap (λ (p : Text × List ℕ). word_or_last (words_within n) p (maybe_sign_at 43 p.1)) (part_again xs word (43 ∷ (gap ++ rest)) h)
-    ∙ ap (word_or_last (words_within n) (word, 43 ∷ (gap ++ rest))) (plus_again gap rest g t)
+    ∙ ap (word_or_last (words_within n) (word, 43 ∷ (gap ++ rest))) (maybe_sign_again 43 gap rest g t)
 
 parts_within : (n : ℕ) (xs : List ℕ) (words : List Text) (last : Text) (here rest : List ℕ) → length xs ≤ n → SpellsParts xs words here → SpellsPart here last rest
     → begins 43 rest ≡ false → words_within n xs ≡ chord_of words last rest

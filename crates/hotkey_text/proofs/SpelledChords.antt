@@ -1,7 +1,7 @@
 -- A key or a button with its modifiers is read exactly where it is spelled.
-use Rattle.std.proofs.Common.{◌≡◌, ℕ, ◌<◌, ◌≤◌, Bool, true, false, cond, not, ◌&&◌, ◌==◌, List, [], ◌∷◌, ◌++◌, length, Option, Some, None, Result, Ok, refl, ap, sym, subst, ◌∙◌, inl, inr, ◌⊎◌, arith}
+use Rattle.std.proofs.Common.{◌≡◌, ℕ, ◌<◌, ◌≤◌, Bool, true, false, not, ◌&&◌, ◌==◌, List, [], ◌∷◌, ◌++◌, length, Option, Some, None, Result, Ok, refl, ap, sym, subst, ◌∙◌, inl, inr, ◌⊎◌, arith}
 use Rattle.std.specs.Fmt.{decimal}
-use Rattle.std.proofs.lemmas.Bool.{eqb-false, ne_eqb}
+use Rattle.std.proofs.lemmas.Bool.{cond_both, eqb-false, ne_eqb}
 use Rattle.std.proofs.lemmas.Fmt.{decimal_nonempty}
 use Rattle.share_base.specs.Names.{same_name}
 use Rattle.share_base.specs.declared.numbers.KeyId.{KeyId}
@@ -84,17 +84,10 @@ may_be_again true id m = refl
 may_be_again false id (inl e) = absurd cc
 may_be_again false id (inr e) = e
 
-allowed_by : (t : Bool) (modifiers : Bool) (k id : KeyId) → (not modifiers && is_modifier_key k) ≡ t → cond t None (Some k) ≡ Some id → (k ≡ id) × MayBe modifiers id
-allowed_by true modifiers k id t e = absurd cc
-allowed_by false modifiers k id t e =
-    let same : k ≡ id = cc in
-    (same, subst (MayBe modifiers) same (may_be modifiers k t))
-
 allowed_takes : (modifiers : Bool) (o : Option KeyId) (id : KeyId) → allowed modifiers o ≡ Some id → (o ≡ Some id) × MayBe modifiers id
-allowed_takes modifiers None id e = absurd cc
-allowed_takes modifiers (Some k) id e =
-    let is = allowed_by (not modifiers && is_modifier_key k) modifiers k id refl e in
-    (ap (λ (j : KeyId). Some j) is.0, is.1)
+allowed_takes modifiers None id = λ e. absurd cc
+allowed_takes modifiers (Some k) id = cond_both (not modifiers && is_modifier_key k) None (Some k) (λ r. r ≡ Some id → (Some k ≡ Some id) × MayBe modifiers id) (λ t e. absurd cc)
+    (λ t e. let same : k ≡ id = cc in (e, subst (MayBe modifiers) same (may_be modifiers k t)))
 
 pub key_chord_takes : (modifiers : Bool) (xs : List ℕ) (chord : KeyChord) → key_chord_at modifiers xs ≡ Ok chord → SpellsKeyChord modifiers xs chord
 unfolding key_chord_at
@@ -145,16 +138,12 @@ record Number (word : List ℕ) (b : MouseButton) : Type 0 where
   text : word ≡ decimal b.0
   within : (1 ≤ b.0) × (b.0 ≤ 255)
 
-number_by : (t : Bool) (word : List ℕ) (n : ℕ) (b : MouseButton) → (n == 0) ≡ t → decimal_of 255 word ≡ Some n → cond t None (Some (button_at n)) ≡ Some b → Number word b
-number_by true word n b t h e = absurd cc
-number_by false word n b t h e =
+number_of : (word : List ℕ) (o : Option ℕ) (b : MouseButton) → decimal_of 255 word ≡ o → button_of o ≡ Some b → Number word b
+number_of word None b h = λ e. absurd cc
+number_of word (Some n) b h = cond_both (n == 0) None (Some (button_at n)) (λ r. r ≡ Some b → Number word b) (λ t e. absurd cc) (λ t e.
     let same : button_at n ≡ b = cc in
     let some : 1 ≤ n = omega (arith, eqb-false n 0 t) in
-    subst (Number word) same (record { text = decimal_spelled 255 n word (omega arith) h; within = (some, decimal_within 255 n word h) })
-
-number_of : (word : List ℕ) (o : Option ℕ) (b : MouseButton) → decimal_of 255 word ≡ o → button_of o ≡ Some b → Number word b
-number_of word None b h e = absurd cc
-number_of word (Some n) b h e = number_by (n == 0) word n b refl h e
+    subst (Number word) same (record { text = decimal_spelled 255 n word (omega arith) h; within = (some, decimal_within 255 n word h) }))
 
 pub mouse_chord_takes : (xs : List ℕ) (chord : MouseChord) → mouse_chord_at xs ≡ Ok chord → SpellsMouseChord xs chord
 unfolding mouse_chord_at
