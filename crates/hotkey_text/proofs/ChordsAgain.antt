@@ -27,9 +27,6 @@ use Rattle.hotkey_text.proofs.SpelledChords.{MayBe, may_be, key_word_some, key_c
 
 -- ---- modifiers
 
-regroup : (a : List ℕ) (s : ℕ) (f r : List ℕ) → ((a ++ s ∷ []) ++ f) ++ r ≡ a ++ s ∷ (f ++ r)
-regroup a s f r = simp append_assoc
-
 mods_spelled : (mods : Mask) (cs : List ModClass) (rest : List ℕ) → SpellsMods (flat_map (mod_text mods) cs ++ rest) (filter (has_class mods) cs) rest
 unfolding mod_text
 mods_spelled mods [] rest = refl
@@ -38,7 +35,7 @@ mods_spelled mods (c ∷ cs) rest = spelled_by (has_class mods c) (flat_map (mod
       → SpellsMods ((cond t (class_word c ++ codes "+") [] ++ others) ++ rest) (cond t (c ∷ ds) ds) rest
   spelled_by true others ds s = (
     others ++ rest,
-    record { word = class_word c; behind_sign = []; names = class_called (class_word c) c (class_found c); text = record { behind_word = []; text = regroup (class_word c) 43 others rest; gap = refl }; gap = refl },
+    record { word = class_word c; behind_sign = []; names = class_called (class_word c) c (class_found c); text = record { behind_word = []; text = simp append_assoc; gap = refl }; gap = refl },
     s,
   )
   spelled_by false others ds s = s

@@ -90,9 +90,6 @@ end_printed screen pressed (a ∷ release) h =
 
 -- ---- the line
 
-grouped : (t e p b q : List ℕ) → (((t ++ e) ++ p) ++ b) ++ q ≡ t ++ (e ++ (p ++ (b ++ q)))
-grouped t e p b q = simp append_assoc
-
 pub line_again : (t : Trigger) (screen : Action → List ℕ) (press release : List Action) → is_trigger t ≡ true → are_spelled screen press ≡ true → are_spelled screen release ≡ true
     → ReadsAs (hotkey_text (trigger_text t) (texts_of screen press) (texts_of screen release)) screen t press release
 unfolding hotkey_text
@@ -102,8 +99,8 @@ line_again t screen press release h p r =
     let lists = with_commas (texts_of screen press) ++ second in
     let argument = trigger_argument t ++ 41 ∷ (codes " = " ++ lists) in
     let text = hotkey_text (trigger_text t) (texts_of screen press) (texts_of screen release) in
-    let is : text ≡ trigger_word (kind_in t) ++ 40 ∷ argument =
-    grouped (trigger_text t) (codes " = ") (with_commas (texts_of screen press)) (between pressed (has_some (texts_of screen release))) (with_commas (texts_of screen release)) ∙ trigger_is t (codes " = " ++ lists) in
+    let grouped : text ≡ trigger_text t ++ (codes " = " ++ lists) = simp append_assoc in
+    let is : text ≡ trigger_word (kind_in t) ++ 40 ∷ argument = grouped ∙ trigger_is t (codes " = " ++ lists) in
     let down = list_printed screen press second p in
     let up = end_printed screen pressed release r in
     let line : HotkeyForm = record { kind = kind_in t; argument = argument; press = down.forms; released = up.released; release = up.forms } in

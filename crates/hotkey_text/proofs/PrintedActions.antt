@@ -5,7 +5,6 @@ use Rattle.std.proofs.lemmas.Bool.{and_parts, ltb-true, not-true}
 use Rattle.share_base.specs.declared.numbers.KeyId.{KeyId}
 use Rattle.share_base.specs.declared.numbers.Mask.{Mask}
 use Rattle.share_base.specs.declared.numbers.MouseButton.{MouseButton}
-use Rattle.share_base.specs.declared.shape.Side.{Side}
 use Rattle.share_base.specs.Sides.{side_text}
 use Rattle.share_base.proofs.ListTests.{all_weaker}
 use Rattle.text_lines.specs.declared.bytes.WordKind.TheVariants as kind
@@ -14,7 +13,6 @@ use Rattle.text_lines.specs.Reading.{is_empty, begins}
 use Rattle.text_lines.specs.Spelling.{IsGap, IsWord}
 use Rattle.text_lines.proofs.SpelledWords.{front_again, some_filled}
 use Rattle.text_lines.proofs.WordsAgain.{text_of}
-use Rattle.hotkey_rules.specs.declared.action.LockMode.{LockMode}
 use Rattle.hotkey_rules.specs.declared.action.Action.{Action}
 use Rattle.hotkey_rules.specs.declared.action.Action.TheVariants as action
 use Rattle.hotkey_rules.specs.declared.trigger.Trigger.{Trigger}
@@ -68,12 +66,6 @@ mouse_call deed mods b h = record {
   words = λ rest. (record { b = b; mods = mods }, mouse_chord_spelled b mods rest h, refl);
 }
 
-lock_bytes : (m : LockMode) → list_all is_argument_byte (lock_word m) ≡ true
-lock_bytes = each_mode (λ m. list_all is_argument_byte (lock_word m)) refl
-
-side_bytes : (s : Side) → list_all is_argument_byte (side_text s) ≡ true
-side_bytes = each_side (λ s. list_all is_argument_byte (side_text s)) refl
-
 last_spelled : (word rest : List ℕ) → SpellsLast (word ++ 41 ∷ rest) word
 last_spelled word rest = (rest, record { behind_word = []; text = refl; gap = refl })
 
@@ -110,19 +102,16 @@ call_of (action.MouseClick mods b) screen h = mouse_call deed.Stroke mods b (and
 call_of (action.MousePress mods b) screen h = mouse_call deed.Press mods b (and_parts _ true h).0
 call_of (action.MouseRelease mods b) screen h = mouse_call deed.Release mods b (and_parts _ true h).0
 call_of (action.Lock mode) screen h =
-    record { name = name.Lock; argument = lock_word mode; is = refl; bytes = lock_bytes mode; words = λ rest. (mode, last_spelled (lock_word mode) rest, refl) }
+    record { name = name.Lock; argument = lock_word mode; is = refl; bytes = each_mode (λ m. list_all is_argument_byte (lock_word m)) refl mode; words = λ rest. (mode, last_spelled (lock_word mode) rest, refl) }
 call_of (action.SwitchTo number) screen h = screen_call screen (and_parts true _ h).1
 call_of (action.SwitchToward s) screen h =
-    record { name = name.SwitchToward; argument = side_text s; is = refl; bytes = side_bytes s; words = λ rest. (s, last_spelled (side_text s) rest, refl) }
+    record { name = name.SwitchToward; argument = side_text s; is = refl; bytes = each_side (λ s. list_all is_argument_byte (side_text s)) refl s; words = λ rest. (s, last_spelled (side_text s) rest, refl) }
 
 -- ---- the text, with anything behind it
 
-grouped : (w : List ℕ) (s : ℕ) (a : List ℕ) (e : ℕ) (rest : List ℕ) → (((w ++ s ∷ []) ++ a) ++ e ∷ []) ++ rest ≡ w ++ s ∷ (a ++ e ∷ rest)
-grouped w s a e rest = simp append_assoc
-
 call_is : (n : ActionName) (argument rest : List ℕ) → call_text n argument ++ rest ≡ action_word n ++ 40 ∷ (argument ++ 41 ∷ rest)
 unfolding call_text
-call_is n argument rest = grouped (action_word n) 40 argument 41 rest
+call_is n argument rest = simp append_assoc
 
 pub brackets_spelled : (argument gap rest : List ℕ) → list_all is_argument_byte argument ≡ true → IsGap gap
     → SpellsBrackets (40 ∷ (argument ++ 41 ∷ (gap ++ rest))) (argument ++ 41 ∷ (gap ++ rest)) rest
