@@ -1,76 +1,17 @@
 -- Lists of actions: what reading one leaves, and the first of its actions.
-use Rattle.std.proofs.Common.{◌≡◌, ℕ, zero, suc, ◌<◌, ◌≤◌, Bool, true, false, cond, List, [], ◌∷◌, length, Option, Some, None, Ok, Err, refl, ap, sym, ◌∙◌, length-drop, arith}
-use Rattle.std.specs.Prelude.{◌==◌, is_ok, is_some}
+use Rattle.std.proofs.Common.{◌≡◌, ℕ, zero, suc, ◌<◌, ◌≤◌, true, List, [], ◌∷◌, length, Option, Some, None, Ok, Err, refl, ap, sym, ◌∙◌, length-append, arith}
+use Rattle.std.specs.Prelude.{is_ok, is_some}
 use Rattle.std.specs.Borrow.{Bor}
 use Rattle.std.specs.Option.{option_copied}
-use Rattle.std.specs.List.{prefix_len}
-use Rattle.text_lines.specs.Bytes.{is_blank, unblanked, front, behind, takes}
-use Rattle.text_lines.specs.declared.bytes.WordKind.TheVariants as word_kind
-use Rattle.text_lines.specs.Reading.{Read, ◌>>=◌, Text, is_empty, run_at, word_at, sign_at, maybe_sign_at}
-use Rattle.text_lines.proofs.SpelledWords.{on_ok}
-use Rattle.hotkey_text.specs.Shapes.{ActionForm, argument_at, action_at, with_first, and_more, actions_within, actions_at, has_some}
+use Rattle.text_lines.specs.Reading.{Read, ◌>>=◌, word_at, maybe_sign_at}
+use Rattle.hotkey_text.specs.Shapes.{ActionForm, action_at, with_first, and_more, actions_within, actions_at, has_some}
 use Rattle.hotkey_text.specs.Lists.{is_formed, read_actions, actions_from, behind_of}
+use Rattle.text_lines.proofs.MaybeSigns.{maybe_sign_takes}
+use Rattle.hotkey_text.proofs.SpelledBrackets.{action_shorter}
 
--- ---- what is read is shorter
-
-unblanked_by : (t : Bool) (b : ℕ) (bs : List ℕ) → length (unblanked bs) ≤ length bs → length (cond t (unblanked bs) (b ∷ bs)) ≤ length (b ∷ bs)
-unblanked_by true b bs h = omega arith
-unblanked_by false b bs h = omega arith
-
-pub unblanked_shorter : (xs : List ℕ) → length (unblanked xs) ≤ length xs
-unblanked_shorter [] = omega arith
-unblanked_shorter (b ∷ bs) = unblanked_by (is_blank b) b bs (unblanked_shorter bs)
-
-sign_by : (t : Bool) (bs rest : List ℕ) (left : ℕ) → cond t (Ok (unblanked bs)) (Err left) ≡ Ok rest → length rest ≤ length bs
-sign_by true bs rest left e = let same : unblanked bs ≡ rest = cc in omega (arith, ap length same, unblanked_shorter bs)
-sign_by false bs rest left e = absurd cc
-
-pub sign_shorter : (c : ℕ) (xs rest : List ℕ) → sign_at c xs ≡ Ok rest → length rest < length xs
-unfolding sign_at
-sign_shorter c [] rest e = absurd cc
-sign_shorter c (b ∷ bs) rest e = omega (arith, sign_by (b == c) bs rest (length (b ∷ bs)) e)
-
-maybe_by : (t : Bool) (bs rest : List ℕ) → cond t (Some (unblanked bs)) None ≡ Some rest → length rest ≤ length bs
-maybe_by true bs rest e = let same : unblanked bs ≡ rest = cc in omega (arith, ap length same, unblanked_shorter bs)
-maybe_by false bs rest e = absurd cc
-
+-- what stands behind a sign is shorter
 pub maybe_sign_shorter : (c : ℕ) (xs rest : List ℕ) → maybe_sign_at c xs ≡ Some rest → length rest < length xs
-unfolding maybe_sign_at
-maybe_sign_shorter c [] rest e = absurd cc
-maybe_sign_shorter c (b ∷ bs) rest e = omega (arith, maybe_by (b == c) bs rest e)
-
-behind_shorter : (p : ℕ → Bool) (xs : List ℕ) → length (behind p xs) ≤ length xs
-behind_shorter p xs = omega (arith, length-drop (prefix_len p xs) xs)
-
-word_by : (t : Bool) (p : ℕ → Bool) (xs : List ℕ) (left : ℕ) (w : Text × List ℕ) → cond t (Err left) (Ok (run_at p xs)) ≡ Ok w → length w.1 ≤ length xs
-word_by true p xs left w e = absurd cc
-word_by false p xs left w e =
-    let same : run_at p xs ≡ w = cc in
-    omega (arith, ap (λ (v : Text × List ℕ). length v.1) same, unblanked_shorter (behind p xs), behind_shorter p xs)
-
-pub word_shorter : (p : ℕ → Bool) (xs : List ℕ) (w : Text × List ℕ) → word_at p xs ≡ Ok w → length w.1 ≤ length xs
-unfolding word_at
-word_shorter p xs w e = word_by (is_empty (front p xs)) p xs (length xs) w e
-
-abbrev rest_or : {A : Type 0} → Read A → List ℕ → List ℕ
-rest_or (Ok r) other = r.1
-rest_or (Err left) other = other
-
-pub argument_shorter : (xs : List ℕ) (a : List ℕ × List ℕ) → argument_at xs ≡ Ok a → length a.1 < length xs
-unfolding argument_at
-argument_shorter xs a e =
-    on_ok (sign_at 40 xs) _ a e (λ argument opens e'.
-    on_ok (sign_at 41 (behind (takes word_kind.Argument) argument)) _ a e' (λ rest closes e''.
-    let same : rest ≡ a.1 = ap (λ (r : Read (List ℕ)). rest_or r rest) e'' in
-    omega (arith, ap length same, sign_shorter 40 xs argument opens, sign_shorter 41 _ rest closes, behind_shorter (takes word_kind.Argument) argument)))
-
-pub action_shorter : (xs : List ℕ) (a : ActionForm × List ℕ) → action_at xs ≡ Ok a → length a.1 < length xs
-unfolding action_at
-action_shorter xs a e =
-    on_ok (word_at (takes word_kind.Action) xs) _ a e (λ word begins e'.
-    on_ok (argument_at word.1) _ a e' (λ argument closes e''.
-    let same : argument.1 ≡ a.1 = ap (λ (r : Read ActionForm). rest_or r argument.1) e'' in
-    omega (arith, ap length same, word_shorter (takes word_kind.Action) xs word begins, argument_shorter word.1 argument closes)))
+maybe_sign_shorter c xs rest e = let s = maybe_sign_takes c xs rest e in omega (arith, ap length s.parts, ap length s.gap.parts, length-append s.gap.gap rest)
 
 -- ---- the bound on actions
 

@@ -11,8 +11,8 @@ use Rattle.hotkey_text.specs.Shapes.{ActionForm, HotkeyForm, argument_at, list_a
 use Rattle.hotkey_text.specs.Spelling.{SpellsBrackets, SpellsList, SpellsRelease, SpellsHotkey}
 use Rattle.hotkey_text.proofs.WordsFound.{trigger_found}
 use Rattle.hotkey_text.proofs.HotkeyWords.{trigger_takes, trigger_is_word}
-use Rattle.hotkey_text.proofs.SpelledBrackets.{Argument, argument_takes, argument_again}
-use Rattle.hotkey_text.proofs.SpelledLists.{action_there, list_there, list_takes, list_tight, list_again, actions_again}
+use Rattle.hotkey_text.proofs.SpelledBrackets.{Argument, argument_takes, argument_again, action_there}
+use Rattle.hotkey_text.proofs.SpelledLists.{list_there, list_takes, list_tight, list_again, actions_again}
 
 -- ---- the press list
 

@@ -1,71 +1,13 @@
--- Actions and lists of them are read exactly where they are spelled.
-use Rattle.std.proofs.Common.{◌≡◌, ℕ, zero, suc, Bool, true, false, List, [], ◌∷◌, ◌++◌, length, Option, Some, None, Ok, refl, ap, sym, subst, ◌∙◌, arith}
-use Rattle.text_lines.specs.declared.bytes.WordKind.TheVariants as kind
-use Rattle.text_lines.specs.Bytes.{takes, is_tight}
-use Rattle.text_lines.specs.Reading.{Text, word_at, maybe_sign_at, begins, is_empty}
-use Rattle.text_lines.specs.Spelling.{IsWord}
-use Rattle.text_lines.proofs.SpelledWords.{on_ok, Word, Breaks, Sign, word_takes, word_tight, gap_breaks}
-use Rattle.text_lines.proofs.Stopping.{word_gap_again}
-use Rattle.hotkey_text.specs.Shapes.{ActionForm, argument_at, action_at, with_first, and_more, actions_within, actions_at, list_at}
-use Rattle.hotkey_text.specs.Spelling.{SpellsBrackets, SpellsAction, SpellsFurther, SpellsList}
+-- Lists of actions are read exactly where they are spelled.
+use Rattle.std.proofs.Common.{◌≡◌, ℕ, zero, suc, true, false, List, [], ◌∷◌, length, Option, Some, None, Ok, refl, ap, sym, subst, ◌∙◌}
+use Rattle.text_lines.specs.Bytes.{is_tight}
+use Rattle.text_lines.specs.Reading.{maybe_sign_at, begins, is_empty}
+use Rattle.text_lines.proofs.SpelledWords.{on_ok, Sign}
+use Rattle.hotkey_text.specs.Shapes.{ActionForm, action_at, with_first, and_more, actions_within, actions_at, list_at}
+use Rattle.hotkey_text.specs.Spelling.{SpellsFurther, SpellsList}
 use Rattle.hotkey_text.proofs.ActionLists.{one_action}
 use Rattle.text_lines.proofs.MaybeSigns.{maybe_sign_takes, maybe_sign_again, other_there, no_maybe_sign}
-use Rattle.hotkey_text.proofs.SpelledBrackets.{Argument, argument_takes, argument_again}
-
--- ---- an action
-
--- it is spelled, and what follows begins with no blank
-pub record Action (xs : List ℕ) (a : ActionForm) (rest : List ℕ) : Type 0 where
-  pub spelled : SpellsAction xs a rest
-  pub tight : is_tight rest ≡ true
-
-action_made : (xs : List ℕ) (word : Text × List ℕ) (argument : List ℕ × List ℕ) → Word (takes kind.Action) xs word → Argument word.1 argument.0 argument.1
-    → Action xs (record { word = word.0; argument = argument.0 }) argument.1
-action_made xs word argument w a =
-    record {
-      spelled = record {
-        behind_word = w.run.gap.gap;
-        brackets = word.1;
-        text = w.run.parts ∙ ap (λ (t : List ℕ). word.0.text ++ t) w.run.gap.parts;
-        argument = a.spelled;
-        word = (w.some, w.run.run);
-        gap = w.run.gap.blank;
-        place = w.run.place;
-      };
-      tight = a.tight;
-    }
-
-pub action_takes : (xs : List ℕ) (y : ActionForm × List ℕ) → action_at xs ≡ Ok y → Action xs y.0 y.1
-unfolding action_at
-action_takes xs y h =
-    on_ok (word_at (takes kind.Action) xs) _ y h (λ word w h.
-    on_ok (argument_at word.1) _ y h (λ argument a h.
-    let made : ActionForm × List ℕ = (record { word = word.0; argument = argument.0 }, argument.1) in
-    let same : made ≡ y = cc in
-    subst (λ (p : ActionForm × List ℕ). Action xs p.0 p.1) same
-    (action_made xs word argument (word_takes (takes kind.Action) xs word w) (argument_takes word.1 argument a))))
-
-bracket_breaks : (brackets argument rest : List ℕ) → SpellsBrackets brackets argument rest → Breaks (takes kind.Action) brackets
-bracket_breaks brackets argument rest b = subst (Breaks (takes kind.Action)) (sym b.text) refl
-
-pub action_again : (xs : List ℕ) (a : ActionForm) (rest : List ℕ) → SpellsAction xs a rest → is_tight rest ≡ true → action_at xs ≡ Ok (a, rest)
-unfolding action_at
-action_again xs a rest s t =
-    let e : xs ≡ a.word.text ++ (s.behind_word ++ s.brackets) = s.text in
-    let p = s.place in
-    let breaks = gap_breaks kind.Action refl s.behind_word s.brackets s.gap (bracket_breaks s.brackets a.argument rest s.argument) in
-    let word = word_gap_again (takes kind.Action) a.word.text s.behind_word s.brackets s.word s.gap breaks (ap is_tight s.argument.text) in
-    rw (e, word, argument_again s.brackets a.argument rest s.argument t) (rw (← e, ← p) refl)
-
-action_tight : (xs : List ℕ) (a : ActionForm) (rest : List ℕ) → SpellsAction xs a rest → is_tight xs ≡ true
-action_tight xs a rest s = ap is_tight s.text ∙ word_tight kind.Action refl a.word.text (s.behind_word ++ s.brackets) s.word
-
-word_there : (p : ℕ → Bool) (w rest : List ℕ) → IsWord p w → is_empty (w ++ rest) ≡ false
-word_there p [] rest h = absurd (omega (arith, h.0))
-word_there p (b ∷ bs) rest h = refl
-
-pub action_there : (xs : List ℕ) (a : ActionForm) (rest : List ℕ) → SpellsAction xs a rest → is_empty xs ≡ false
-action_there xs a rest s = ap is_empty s.text ∙ word_there (takes kind.Action) a.word.text (s.behind_word ++ s.brackets) s.word
+use Rattle.hotkey_text.proofs.SpelledBrackets.{Action, action_takes, action_again, action_tight, action_there}
 
 -- ---- a list that has an action
 

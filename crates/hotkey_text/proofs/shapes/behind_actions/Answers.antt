@@ -3,7 +3,8 @@ use Rattle.std.proofs.lemmas.Result.{err_from_is_err_and}
 use Rattle.hotkey_text.specs.Shapes.{actions_at}
 use Rattle.hotkey_text.specs.Lists.{behind_of}
 use Rattle.hotkey_text.specs.Seen.{form_text}
-use Rattle.hotkey_text.proofs.ActionLists.{no_action, one_action, behind_more, action_shorter, maybe_sign_shorter}
+use Rattle.hotkey_text.proofs.ActionLists.{no_action, one_action, behind_more, maybe_sign_shorter}
+use Rattle.hotkey_text.proofs.SpelledBrackets.{action_shorter}
 use Rattle.hotkey_text.proofs.shapes.behind_actions.Goals as goal
 
 pub returns-in_err-behind : goal.returns-in_err-behind
