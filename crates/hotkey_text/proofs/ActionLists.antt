@@ -4,9 +4,9 @@ use Rattle.std.specs.Prelude.{is_ok, is_some}
 use Rattle.std.specs.Borrow.{Bor}
 use Rattle.std.specs.Option.{option_copied}
 use Rattle.text_lines.specs.Reading.{Read, ◌>>=◌, word_at, maybe_sign_at}
+use Rattle.text_lines.proofs.MaybeSigns.{maybe_sign_takes}
 use Rattle.hotkey_text.specs.Shapes.{ActionForm, action_at, with_first, and_more, actions_within, actions_at, has_some}
 use Rattle.hotkey_text.specs.Lists.{is_formed, read_actions, actions_from, behind_of}
-use Rattle.text_lines.proofs.MaybeSigns.{maybe_sign_takes}
 use Rattle.hotkey_text.proofs.SpelledBrackets.{action_shorter}
 
 -- what stands behind a sign is shorter
@@ -15,21 +15,14 @@ maybe_sign_shorter c xs rest e = let s = maybe_sign_takes c xs rest e in omega (
 
 -- ---- the bound on actions
 
-abbrev SameUpTo : ℕ → ℕ → Type 0
-SameUpTo n m = (xs : List ℕ) → length xs ≤ n → length xs ≤ m → actions_within n xs ≡ actions_within m xs
-
-same_more : (n m : ℕ) (a : ActionForm × List ℕ) (o : Option (List ℕ)) → SameUpTo n m → length a.1 ≤ n → length a.1 ≤ m → maybe_sign_at 44 a.1 ≡ o
-    → and_more (actions_within n) a o ≡ and_more (actions_within m) a o
-same_more n m a None same h k e = refl
-same_more n m a (Some rest) same h k e =
-    let shorter = maybe_sign_shorter 44 a.1 rest e in
-    ap (with_first a.0) (same rest (omega arith) (omega arith))
-
-same_behind : (n m : ℕ) (xs : List ℕ) (r : Read ActionForm) → SameUpTo n m → length xs ≤ suc n → length xs ≤ suc m → action_at xs ≡ r
-    → (r >>= λ a. and_more (actions_within n) a (maybe_sign_at 44 a.1)) ≡ (r >>= λ a. and_more (actions_within m) a (maybe_sign_at 44 a.1))
-same_behind n m xs (Ok a) same h k e =
-    let shorter = action_shorter xs a e in same_more n m a (maybe_sign_at 44 a.1) same (omega arith) (omega arith) refl
-same_behind n m xs (Err left) same h k e = refl
+-- lists are read alike where shorter ones are
+same_behind : (f g : List ℕ → Read (List ActionForm)) (xs : List ℕ) (r : Read ActionForm) → action_at xs ≡ r → ((rest : List ℕ) → length rest < length xs → f rest ≡ g rest)
+    → (r >>= λ a. and_more f a (maybe_sign_at 44 a.1)) ≡ (r >>= λ a. and_more g a (maybe_sign_at 44 a.1))
+same_behind f g xs (Err left) e same = refl
+same_behind f g xs (Ok a) e same = by_comma (maybe_sign_at 44 a.1) refl where
+  by_comma : (o : Option (List ℕ)) → maybe_sign_at 44 a.1 ≡ o → and_more f a o ≡ and_more g a o
+  by_comma None s = refl
+  by_comma (Some rest) s = ap (with_first a.0) (same rest (omega (arith, action_shorter xs a e, maybe_sign_shorter 44 a.1 rest s)))
 
 -- two bounds that are no less than the text give one list
 pub enough : (n m : ℕ) (xs : List ℕ) → length xs ≤ n → length xs ≤ m → actions_within n xs ≡ actions_within m xs
@@ -39,24 +32,14 @@ enough zero (suc m) [] h k = refl
 enough zero (suc m) (x ∷ xs) h k = absurd (omega arith)
 enough (suc n) zero [] h k = refl
 enough (suc n) zero (x ∷ xs) h k = absurd (omega arith)
-enough (suc n) (suc m) xs h k = same_behind n m xs (action_at xs) (enough n m) h k refl
-
-more_or_none : (a : ActionForm × List ℕ) (n : ℕ) (o : Option (List ℕ)) → length a.1 ≤ n → maybe_sign_at 44 a.1 ≡ o → and_more (actions_within n) a o ≡ and_more actions_at a o
-more_or_none a n None l e = refl
-more_or_none a n (Some rest) l e =
-    let shorter = maybe_sign_shorter 44 a.1 rest e in
-    ap (with_first a.0) (enough n (length rest) rest (omega arith) (omega arith))
+enough (suc n) (suc m) xs h k = same_behind (actions_within n) (actions_within m) xs (action_at xs) refl (λ rest l. enough n m rest (omega arith) (omega arith))
 
 -- the list is its first action and, behind a comma, one more list
 pub first_and_more : (xs : List ℕ) → actions_at xs ≡ (action_at xs >>= λ a. and_more actions_at a (maybe_sign_at 44 a.1))
 unfolding actions_within action_at word_at
 first_and_more [] = refl
-first_and_more (x ∷ xs) = by_action (action_at (x ∷ xs)) refl
-  where
-    by_action : (r : Read ActionForm) → action_at (x ∷ xs) ≡ r
-        → (r >>= λ a. and_more (actions_within (length xs)) a (maybe_sign_at 44 a.1)) ≡ (r >>= λ a. and_more actions_at a (maybe_sign_at 44 a.1))
-    by_action (Ok a) e = let shorter = action_shorter (x ∷ xs) a e in more_or_none a (length xs) (maybe_sign_at 44 a.1) (omega arith) refl
-    by_action (Err left) e = refl
+first_and_more (x ∷ xs) =
+    same_behind (actions_within (length xs)) actions_at (x ∷ xs) (action_at (x ∷ xs)) refl (λ rest l. enough (length xs) (length rest) rest (omega arith) (omega arith))
 
 abbrev from_action : Read ActionForm → Read (List ActionForm)
 from_action r = r >>= λ a. and_more actions_at a (maybe_sign_at 44 a.1)

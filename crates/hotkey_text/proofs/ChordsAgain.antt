@@ -21,9 +21,9 @@ use Rattle.hotkey_text.specs.Again.{is_argument_byte}
 use Rattle.hotkey_text.specs.SpellingWords.{SpellsLast, SpellsMods, IsNone, AreApart, bits_of, SpellsKeyChord, SpellsMouseChord}
 use Rattle.hotkey_text.proofs.ArgumentBytes.{is_chord_byte, chord_argument, chord_taken, mods_bytes, key_chord, number_bytes}
 use Rattle.hotkey_text.proofs.KeysAgain.{key_again}
+use Rattle.hotkey_text.proofs.SpelledChords.{MayBe, may_be, key_word_some, key_chord_read, mouse_chord_read}
 use Rattle.hotkey_text.proofs.SpelledMods.{class_called}
 use Rattle.hotkey_text.proofs.WordsFound.{class_found}
-use Rattle.hotkey_text.proofs.SpelledChords.{MayBe, may_be, key_word_some, key_chord_read, mouse_chord_read}
 
 -- ---- modifiers
 

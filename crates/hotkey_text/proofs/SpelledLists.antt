@@ -3,10 +3,10 @@ use Rattle.std.proofs.Common.{◌≡◌, ℕ, zero, suc, true, false, List, [], 
 use Rattle.text_lines.specs.Bytes.{is_tight}
 use Rattle.text_lines.specs.Reading.{maybe_sign_at, begins, is_empty}
 use Rattle.text_lines.proofs.SpelledWords.{on_ok, Sign}
+use Rattle.text_lines.proofs.MaybeSigns.{maybe_sign_takes, maybe_sign_again, other_there, no_maybe_sign}
 use Rattle.hotkey_text.specs.Shapes.{ActionForm, action_at, with_first, and_more, actions_within, actions_at, list_at}
 use Rattle.hotkey_text.specs.Spelling.{SpellsFurther, SpellsList}
 use Rattle.hotkey_text.proofs.ActionLists.{one_action}
-use Rattle.text_lines.proofs.MaybeSigns.{maybe_sign_takes, maybe_sign_again, other_there, no_maybe_sign}
 use Rattle.hotkey_text.proofs.SpelledBrackets.{Action, action_takes, action_again, action_tight, action_there}
 
 -- ---- a list that has an action

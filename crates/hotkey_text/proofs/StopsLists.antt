@@ -4,11 +4,11 @@ use Rattle.text_lines.specs.Bytes.{is_tight}
 use Rattle.text_lines.specs.Reading.{◌>>=◌, maybe_sign_at, end_at, begins, is_empty}
 use Rattle.text_lines.specs.Spelling.{IsGap}
 use Rattle.text_lines.proofs.SpelledWords.{on_err, Sign, end_stops}
+use Rattle.text_lines.proofs.MaybeSigns.{maybe_sign_takes, maybe_sign_again}
 use Rattle.hotkey_text.specs.Shapes.{ActionForm, action_at, with_first, and_more, actions_at, list_at}
 use Rattle.hotkey_text.specs.Spelling.{SpellsAction, SpellsList}
 use Rattle.hotkey_text.proofs.ActionLists.{first_and_more, no_action, one_action, maybe_sign_shorter}
 use Rattle.hotkey_text.proofs.SpelledBrackets.{action_takes, action_again, action_shorter}
-use Rattle.text_lines.proofs.MaybeSigns.{maybe_sign_takes, maybe_sign_again}
 use Rattle.hotkey_text.proofs.SpelledLists.{Actions, actions_take, actions_again, list_there}
 use Rattle.hotkey_text.proofs.Fronts.{next_first, action_front, actions_front, SpellsActions, one_more, flat_sign}
 use Rattle.hotkey_text.proofs.StopsActions.{Halts, action_halts}

@@ -4,19 +4,19 @@ use Rattle.std.specs.Prelude.{Contains}
 use Rattle.std.specs.List.{find, list_all}
 use Rattle.std.specs.Str.{bytes_eq}
 use Rattle.std.proofs.lemmas.Option.{slice_get-get_or}
+use Rattle.share_base.specs.Sides.{side_text, sides}
+use Rattle.share_base.specs.Names.{same_name}
+use Rattle.share_base.specs.declared.shape.Side.{Side}
 use Rattle.share_base.proofs.ListTests.{all_at}
 use Rattle.share_base.proofs.SideWords.{side_found}
-use Rattle.share_base.specs.Sides.{side_text, sides}
-use Rattle.share_base.specs.declared.shape.Side.{Side}
-use Rattle.hotkey_rules.proofs.FirstFound.{found_listed}
-use Rattle.modifier_map.specs.Table.{all_classes}
-use Rattle.hotkey_text.specs.declared.names.TriggerKind.{TriggerKind}
-use Rattle.hotkey_text.specs.declared.names.TriggerKind.TheVariants as trigger
-use Rattle.share_base.specs.Names.{same_name}
 use Rattle.modifier_map.specs.declared.class.ModClass.{ModClass}
 use Rattle.modifier_map.specs.declared.class.ModClass.TheVariants as class
+use Rattle.modifier_map.specs.Table.{all_classes}
 use Rattle.hotkey_rules.specs.declared.action.LockMode.{LockMode}
 use Rattle.hotkey_rules.specs.declared.action.LockMode.TheVariants as lock
+use Rattle.hotkey_rules.proofs.FirstFound.{found_listed}
+use Rattle.hotkey_text.specs.declared.names.TriggerKind.{TriggerKind}
+use Rattle.hotkey_text.specs.declared.names.TriggerKind.TheVariants as trigger
 use Rattle.hotkey_text.specs.declared.names.Deed.TheVariants as deed
 use Rattle.hotkey_text.specs.declared.names.ActionName.{ActionName}
 use Rattle.hotkey_text.specs.declared.names.ActionName.TheVariants as name
