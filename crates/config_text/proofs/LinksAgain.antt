@@ -23,9 +23,8 @@ use Rattle.share_base.specs.Sides.{sides}
 use Rattle.config_text.specs.Sound.{IsSound, link_below}
 use Rattle.config_text.specs.Values.{name_in, name_of, numbers_of, hundredths, link_beginning, links_on, links_in}
 use Rattle.config_text.proofs.KnownAgain.{AreNamed, sound_names, is_name_again, known_again, links_headers, block_again}
-use Rattle.config_text.proofs.LinkWords.{link_words, link_read, link_at_again, link_no_header, link_no_end, link_clean}
 use Rattle.config_text.proofs.NewLinks.{link_taken}
-use Rattle.config_text.proofs.RangesAgain.{good_again}
+use Rattle.config_text.proofs.PrintedLinks.{good_again, link_words, link_read, link_at_again, link_no_header, link_no_end, link_clean}
 use Rattle.config_text.proofs.RisingLinks.{Rises, rank, rank_of, rises_le, none_before, no_more, in_screen, all_rise}
 use Rattle.config_text.proofs.Runs.{ReadsText, ReadsTextBelow, no_text, no_text_below, text_both, text_below_both, line_below}
 
