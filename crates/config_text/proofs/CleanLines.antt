@@ -1,13 +1,14 @@
 -- What counts of a line whose words stand behind tabs, with no comment.
 use Rattle.std.proofs.Common.{◌≡◌, ℕ, ◌<◌, Bool, true, false, cond, not, ◌==◌, ◌&&◌, List, [], ◌∷◌, ◌++◌, length, refl, ap, sym, subst, ◌∙◌, ◌-◌, get_or, arith}
-use Rattle.std.specs.List.{list_all}
-use Rattle.std.proofs.lemmas.Bool.{and_parts, eqb-true, ne_eqb, both_ways, false_from_ne_true}
+use Rattle.std.specs.List.{list_all, list_any}
+use Rattle.std.proofs.lemmas.Bool.{and_parts, and_right, eqb-true, ne_eqb, both_ways, false_from_ne_true, not_from_true}
 use Rattle.std.specs.Prelude.{codes}
 use Rattle.std.specs.Str.{bytes_eq}
 use Rattle.std.proofs.lemmas.Slice.Eq.{bytes_eq-Decides}
 use Rattle.share_base.proofs.Ends.{last_is}
 use Rattle.text_lines.specs.Bytes.{is_blank, is_tight, unblanked}
 use Rattle.text_lines.specs.Lines.{trimmed}
+use Rattle.config_text.specs.Sections.{is_header}
 
 trimmed_more : (b : ℕ) (xs : List ℕ) → 0 < length xs → trimmed xs ≡ xs → trimmed (b ∷ xs) ≡ b ∷ xs
 unfolding trimmed
@@ -51,3 +52,11 @@ not_end name = false_from_ne_true _ (λ e.
     let same : name ++ 58 ∷ [] ≡ codes "end" = (bytes_eq-Decides (name ++ 58 ∷ []) (codes "end")).0 e in
     let last : 58 ≡ 100 = sym (last_is name 58) ∙ ap (λ (xs : List ℕ). get_or xs (length xs - 1) 0) same in
     absurd (omega arith))
+
+-- nor is one with the sign =, and it is no header
+pub equals_no_end : (xs : List ℕ) → list_any (λ b. b == 61) xs ≡ true → bytes_eq xs (codes "end") ≡ false
+equals_no_end xs h = false_from_ne_true _ (λ e. both_ways _ (ap (list_any (λ b. b == 61)) ((bytes_eq-Decides xs (codes "end")).0 e)) h)
+
+pub equals_no_header : (xs : List ℕ) → list_any (λ b. b == 61) xs ≡ true → is_header xs ≡ false
+unfolding is_header
+equals_no_header xs h = and_right _ _ (not_from_true _ h)

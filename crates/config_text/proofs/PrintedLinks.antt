@@ -1,12 +1,11 @@
 -- A link is printed as it is spelled, so that it is read again, and a line keeps it.
-use Rattle.std.proofs.Common.{◌≡◌, ℕ, ◌+◌, ◌<◌, ◌≤◌, Bool, true, false, cond, ◌&&◌, ◌==◌, List, [], ◌∷◌, ◌++◌, length, Result, Ok, Option, Some, None, refl, ap, sym, subst, ◌∙◌, append_assoc, append-nil, arith}
+use Rattle.std.proofs.Common.{◌≡◌, ℕ, ◌+◌, ◌≤◌, Bool, true, false, cond, ◌&&◌, ◌==◌, List, [], ◌∷◌, ◌++◌, length, Result, Ok, Option, Some, None, refl, ap, sym, subst, ◌∙◌, append_assoc, append-nil, arith}
 use Rattle.std.specs.Prelude.{codes}
 use Rattle.std.specs.List.{list_all, list_any}
-use Rattle.std.specs.Str.{bytes_eq}
 use Rattle.std.specs.Fmt.{decimal}
-use Rattle.std.proofs.lemmas.Bool.{and_parts, and_right, or_left, or_right, both_ways, eqb-true, lt-ltb, le-leb, agree_below_at, false_from_ne_true, not_from_true}
+use Rattle.std.proofs.Math.Bool.{or-true}
+use Rattle.std.proofs.lemmas.Bool.{and_parts, eqb-true, lt-ltb, le-leb, agree_below_at}
 use Rattle.std.proofs.lemmas.List.Folds.{list_any-append}
-use Rattle.std.proofs.lemmas.Slice.Eq.{bytes_eq-Decides}
 use Rattle.share_base.specs.declared.shape.Side.{Side}
 use Rattle.share_base.specs.declared.shape.Side.TheVariants.{Left, Right, Up, Down}
 use Rattle.share_base.specs.Names.{is_name}
@@ -20,21 +19,19 @@ use Rattle.text_lines.proofs.WordsAgain.{text_of}
 use Rattle.config_text.specs.declared.faults.Fault.{Fault}
 use Rattle.config_text.specs.Judging.{good_range, range_of}
 use Rattle.config_text.specs.Normal.{range_text}
-use Rattle.config_text.specs.Sections.{is_header}
-use Rattle.config_text.specs.Shapes.{RangeText, LinkText, link_at}
+use Rattle.config_text.specs.Shapes.{RangeText, LinkText}
 use Rattle.config_text.specs.SpellingLinks.{SpellsMaybe, SpellsLink}
 use Rattle.config_text.proofs.NamesAgain.{name_takes}
 use Rattle.config_text.proofs.NamesClean.{clean_name}
-use Rattle.config_text.proofs.SpelledLinks.{link_again}
 
 -- ---- (a,b)
 
 -- this text spells a range, or none where it is the whole side; it may stand behind a name
-record Printed (r : Range) (xs : List ℕ) (read : ℕ → Option RangeText) : Type 0 where
-  spelled : (left : ℕ) → SpellsMaybe xs (read left) left
-  judged : (left : ℕ) → good_range (read left) ≡ Ok r
-  plain : list_all is_plain xs ≡ true
-  clean : (name : List ℕ) → IsClean name → IsClean (name ++ xs)
+pub record Printed (r : Range) (xs : List ℕ) (read : ℕ → Option RangeText) : Type 0 where
+  pub spelled : (left : ℕ) → SpellsMaybe xs (read left) left
+  pub judged : (left : ℕ) → good_range (read left) ≡ Ok r
+  pub plain : list_all is_plain xs ≡ true
+  pub clean : (name : List ℕ) → IsClean name → IsClean (name ++ xs)
 
 decimal_plain : (n : ℕ) → n ≤ 100 → list_all is_plain (decimal n) ≡ true
 decimal_plain n h = all_digits is_plain (λ d k. agree_below_at (λ d. is_plain (48 + d)) (λ d. true) 10 d refl k) n (omega arith)
@@ -78,13 +75,9 @@ printed_by false r e good =
 abbrev range_read : Range → ℕ → Option RangeText
 range_read r left = cond ((r.a == 0) && (r.b == 100)) None (Some (record { a = r.a; b = r.b; left = left }))
 
-printed : (r : Range) → IsGood r → Printed r (range_text r) (range_read r)
+pub printed : (r : Range) → IsGood r → Printed r (range_text r) (range_read r)
 unfolding range_text
 printed r good = printed_by ((r.a == 0) && (r.b == 100)) r refl good
-
--- what was read is the range
-pub good_again : (r : Range) (left : ℕ) → IsGood r → good_range (range_read r left) ≡ Ok r
-good_again r left good = (printed r good).judged left
 
 -- ---- SIDE(a,b) = NAME(c,d)
 
@@ -92,17 +85,15 @@ abbrev pub link_words : Side → Range → List ℕ → Range → List ℕ
 link_words side range name onto = (((side_text side ++ range_text range) ++ codes " = ") ++ name) ++ range_text onto
 
 abbrev pub link_read : Side → Range → List ℕ → Range → LinkText
-link_read side range name onto =
-    let behind = range_text onto ++ [] in
-    record {
-      side = side;
-      left = length (link_words side range name onto);
-      source = range_read range (length (range_text range ++ 32 ∷ 61 ∷ 32 ∷ (name ++ behind)));
-      name = text_of name (length (name ++ behind));
-      target = range_read onto (length behind);
-    }
+link_read side range name onto = record {
+  side = side;
+  left = length (link_words side range name onto);
+  source = range_read range (length (range_text range ++ 32 ∷ 61 ∷ 32 ∷ (name ++ (range_text onto ++ []))));
+  name = text_of name (length (name ++ (range_text onto ++ [])));
+  target = range_read onto (length (range_text onto ++ []));
+}
 
-link_spelled : (side : Side) (range : Range) (name : List ℕ) (onto : Range) → IsGood range → is_name name ≡ true → IsGood onto
+pub link_spelled : (side : Side) (range : Range) (name : List ℕ) (onto : Range) → IsGood range → is_name name ≡ true → IsGood onto
     → SpellsLink (link_words side range name onto) (link_read side range name onto)
 link_spelled side range name onto good named good_onto = record {
   behind_side = [];
@@ -126,26 +117,10 @@ link_spelled side range name onto good named good_onto = record {
   place = refl;
 }
 
-pub link_at_again : (side : Side) (range : Range) (name : List ℕ) (onto : Range) → IsGood range → is_name name ≡ true → IsGood onto
-    → link_at (link_words side range name onto) ≡ Ok (link_read side range name onto)
-link_at_again side range name onto good named good_onto = link_again _ _ (link_spelled side range name onto good named good_onto)
+-- ---- it has a sign, and a line keeps it
 
--- ---- it is no header and no `end`, and a line keeps it
-
-has_equals : (side : Side) (range : Range) (name : List ℕ) (onto : Range) → list_any (λ b. b == 61) (link_words side range name onto) ≡ true
-has_equals side range name onto =
-    let front = side_text side ++ range_text range in
-    list_any-append (λ b. b == 61) ((front ++ codes " = ") ++ name) (range_text onto) ∙ or_left _ _ (
-    list_any-append (λ b. b == 61) (front ++ codes " = ") name ∙ or_left _ _ (list_any-append (λ b. b == 61) front (codes " = ") ∙ or_right _ _ refl))
-
-pub link_no_header : (side : Side) (range : Range) (name : List ℕ) (onto : Range) → is_header (link_words side range name onto) ≡ false
-unfolding is_header
-link_no_header side range name onto = and_right _ _ (not_from_true _ (has_equals side range name onto))
-
-pub link_no_end : (side : Side) (range : Range) (name : List ℕ) (onto : Range) → bytes_eq (link_words side range name onto) (codes "end") ≡ false
-link_no_end side range name onto = false_from_ne_true _ (λ e.
-    let same : link_words side range name onto ≡ codes "end" = (bytes_eq-Decides (link_words side range name onto) (codes "end")).0 e in
-    both_ways _ (ap (list_any (λ b. b == 61)) same) (has_equals side range name onto))
+pub link_equals : (side : Side) (range : Range) (name : List ℕ) (onto : Range) → list_any (λ b. b == 61) (link_words side range name onto) ≡ true
+link_equals side range name onto = simp (list_any-append, or-true)
 
 clean_side : (side : Side) → IsClean (side_text side)
 clean_side Left = clean_solid (codes "left") refl refl (omega arith)
