@@ -1,8 +1,9 @@
 -- The aliases section is read again.
-use Rattle.std.proofs.Common.{◌≡◌, ℕ, zero, suc, ◌+◌, ◌-◌, ◌<◌, ◌≤◌, Bool, true, false, cond, not, ◌==◌, List, [], ◌∷◌, ◌++◌, length, length-append, map, get_or, Result, Ok, Some, None, nat_lt, refl, ap, sym, subst, ◌∙◌, append_assoc, append-nil, arith, inl, inr}
+use Rattle.std.proofs.Common.{◌≡◌, ℕ, zero, suc, ◌+◌, ◌-◌, ◌<◌, ◌≤◌, Bool, true, false, cond, not, ◌==◌, List, [], ◌∷◌, ◌++◌, length, length-append, map, get_or, Result, Ok, Some, None, nat_lt, refl, ap, sym, subst, ◌∙◌, append_assoc, append-nil, arith}
 use Rattle.std.specs.Prelude.{filter}
 use Rattle.std.specs.List.{flat_map, list_all, range_with_len}
-use Rattle.std.proofs.lemmas.Bool.{and_parts, and_left, not-true, lt-ltb, le-ltb, eq-eqb, ne_eqb, eqb-true, cases_order}
+use Rattle.std.proofs.lemmas.Bool.{and_parts, and_left, not-true, lt-ltb, ne_eqb, eqb-true}
+use Rattle.std.proofs.lemmas.Bool.Decides.{nat_tests}
 use Rattle.std.proofs.lemmas.List.{map-append}
 use Rattle.std.proofs.lemmas.List.Sums.{length-filter, count_by-le-length, AllPass-from_list_all, list_all-from_AllPass}
 use Rattle.std.proofs.lemmas.List.Elements.{filter-append, All-filter}
@@ -139,13 +140,7 @@ is_below n a = nat_lt a.screen n
 
 counted : (n : ℕ) (aliases : List Alias) → length (filter (is_below (n + 1)) aliases) ≡ length (filter (is_below n) aliases) + length (filter (names_screen n) aliases)
 counted n [] = refl
-counted n (a ∷ more) =
-    let rest = counted n more in
-    elim (cases_order a.screen n) as (λ _. length (filter (is_below (n + 1)) (a ∷ more)) ≡ length (filter (is_below n) (a ∷ more)) + length (filter (names_screen n) (a ∷ more))) [
-      | inl e ↦ rw (lt-ltb a.screen (n + 1) (omega arith), le-ltb a.screen n (omega arith), eq-eqb a.screen n e) (omega arith)
-      | inr (inl h) ↦ rw (lt-ltb a.screen (n + 1) (omega arith), lt-ltb a.screen n h, ne_eqb a.screen n (λ e. omega arith)) (omega arith)
-      | inr (inr h) ↦ rw (le-ltb a.screen (n + 1) (omega arith), le-ltb a.screen n (omega arith), ne_eqb a.screen n (λ e. omega arith)) (omega arith)
-    ]
+counted n (a ∷ more) = grind (arith, nat_tests, counted n more)
 
 others_more : (c : Configuration) (n : ℕ) (done : List Alias) → IsSound c → Others c n done → Others c (n + 1) (done ++ aliases_in c n)
 others_more c n done s others = λ front a back e h.
@@ -180,7 +175,7 @@ blocks_again c n (suc len) done s others known count =
 
 none_below : (aliases : List Alias) → 0 ≡ length (filter (is_below 0) aliases)
 none_below [] = refl
-none_below (a ∷ more) = rw (le-ltb a.screen 0 (omega arith)) (none_below more)
+none_below (a ∷ more) = grind (arith, nat_tests, none_below more)
 
 -- the aliases section, where the screens stand already
 pub aliases_again : (c : Configuration) → IsSound c → ReadsText section.Aliases (with_aliases c []) (aliases_text c) (with_aliases c (flat_map (aliases_in c) (numbers_of c)))

@@ -1,7 +1,7 @@
 -- Links that are printed are read again.
 use Rattle.std.proofs.Common.{◌≡◌, ℕ, zero, suc, ◌+◌, ◌*◌, ◌<◌, ◌≤◌, false, List, [], ◌∷◌, ◌++◌, length, Option, Some, None, nat_lt, refl, ap, sym, subst, ◌∙◌, append_assoc, append-nil, length-append, arith}
 use Rattle.std.specs.Prelude.{slice_get, Contains}
-use Rattle.std.specs.List.{flat_map, filter_map, cons_option, list_any, range_with_len}
+use Rattle.std.specs.List.{flat_map, list_any, range_with_len}
 use Rattle.std.proofs.lemmas.Bool.{and_parts, ltb-true}
 use Rattle.std.proofs.lemmas.Option.{slice_get-get_or}
 use Rattle.std.proofs.lemmas.List.Concat.{flat_map-append}
@@ -24,6 +24,8 @@ use Rattle.config_text.specs.Values.{name_of, numbers_of, hundredths, link_begin
 use Rattle.config_text.proofs.CleanLines.{equals_no_end, equals_no_header}
 use Rattle.config_text.proofs.KnownAgain.{sound_names, is_name_again, known_again, links_headers, block_again}
 use Rattle.config_text.proofs.NewLinks.{link_taken}
+use Rattle.config_text.proofs.Picking.{filter_map_flat}
+use Rattle.std.specs.Option.{option_to_list}
 use Rattle.config_text.proofs.PrintedLinks.{printed, link_words, link_read, link_spelled, link_equals, link_clean}
 use Rattle.config_text.proofs.RisingLinks.{Rises, rank, rank_of, rises_le, none_before, no_more, in_screen, all_rise}
 use Rattle.config_text.proofs.SpelledLinks.{link_again}
@@ -34,24 +36,18 @@ use Rattle.config_text.proofs.Runs.{ReadsText, ReadsTextBelow, no_text, no_text_
 abbrev texts_of : Configuration → List Link → List ℕ
 texts_of c links = flat_map (link_text c) links
 
-picked_by : (c : Configuration) (o : Option Link) (links : List Link) (text : List ℕ) → text ≡ texts_of c links → maybe_link c o ++ text ≡ texts_of c (cons_option o links)
-picked_by c None links text e = e
-picked_by c (Some l) links text e = ap (λ (t : List ℕ). link_text c l ++ t) e
+each_text : {K : Type 0} (c : Configuration) (text : K → List ℕ) (links : K → List Link) → ((k : K) → text k ≡ texts_of c (links k)) → (keys : List K) → flat_map text keys ≡ texts_of c (flat_map links keys)
+each_text c text links e [] = refl
+each_text c text links e (k ∷ ks) = rw (e k, each_text c text links e ks) (sym (flat_map-append (link_text c) (links k) (flat_map links ks)))
 
-picked : (c : Configuration) (f : ℕ → Option Link) (places : List ℕ) → flat_map (λ a. maybe_link c (f a)) places ≡ texts_of c (filter_map f places)
-picked c f [] = refl
-picked c f (a ∷ places) = picked_by c (f a) (filter_map f places) (flat_map (λ k. maybe_link c (f k)) places) (picked c f places)
+one_text : (c : Configuration) (o : Option Link) → maybe_link c o ≡ texts_of c (option_to_list o)
+one_text c None = refl
+one_text c (Some l) = sym (append-nil (link_text c l))
 
 pub side_text_is : (c : Configuration) (n : ℕ) (side : Side) → side_links c n side ≡ texts_of c (links_on c n side)
 unfolding side_links links_on link_at
-side_text_is c n side = picked c (link_beginning c n side) hundredths
-
-sides_text_is : (c : Configuration) (n : ℕ) (all : List Side) → flat_map (side_links c n) all ≡ texts_of c (flat_map (links_on c n) all)
-sides_text_is c n [] = refl
-sides_text_is c n (side ∷ others) =
-    ap (λ (t : List ℕ). t ++ flat_map (side_links c n) others) (side_text_is c n side)
-    ∙ ap (λ (t : List ℕ). texts_of c (links_on c n side) ++ t) (sides_text_is c n others)
-    ∙ sym (flat_map-append (link_text c) (links_on c n side) (flat_map (links_on c n) others))
+side_text_is c n side =
+    each_text c (link_at c n side) (λ a. option_to_list (link_beginning c n side a)) (λ a. one_text c (link_beginning c n side a)) hundredths ∙ ap (texts_of c) (sym (filter_map_flat (link_beginning c n side) hundredths))
 
 -- ---- one link
 
@@ -123,7 +119,7 @@ unfolding links_of
 screen_again c aliases taken back n s parts h =
     let from = with_links c aliases taken in
     let to = with_links c aliases (taken ++ links_in c n) in
-    subst (λ (text : List ℕ). ReadsText section.Links from (block_text (name_of c n) text) to) (sym (sides_text_is c n sides))
+    subst (λ (text : List ℕ). ReadsText section.Links from (block_text (name_of c n) text) to) (sym (each_text c (side_links c n) (links_on c n) (side_text_is c n) sides))
     (block_again section.Links n from to (texts_of c (links_in c n)) links_headers (sound_names c s) h (below_again c aliases taken (links_in c n) back n (400 * n) s parts (in_screen c n) (omega arith)))
 
 screens_again : (c : Configuration) (aliases : List Alias) (taken : List Link) (n len : ℕ) → IsSound c → all_links c ≡ taken ++ flat_map (links_in c) (range_with_len n len) → n + len ≤ length c.screens

@@ -10,11 +10,12 @@ use Rattle.share_base.proofs.ListTests.{all_weaker, any_none}
 use Rattle.share_base.proofs.Ends.{last_is}
 use Rattle.text_lines.specs.declared.bytes.WordKind.TheVariants as kind
 use Rattle.text_lines.specs.Bytes.{takes, is_blank, is_allowed}
-use Rattle.text_lines.specs.Reading.{is_empty, sign_at}
-use Rattle.text_lines.proofs.WordsAgain.{front_is, behind_is, text_of}
+use Rattle.text_lines.specs.Reading.{is_empty}
+use Rattle.text_lines.proofs.WordsAgain.{text_of}
 use Rattle.config_text.specs.Shapes.{header_at}
 use Rattle.config_text.specs.Sections.{is_header}
 use Rattle.config_text.proofs.CleanLines.{differs}
+use Rattle.config_text.proofs.Spelled.{header_again as spelled_again}
 
 -- ---- a byte of a name goes on in a name's run, is no blank, may stand in a line, and begins no comment
 
@@ -52,10 +53,8 @@ name_some (b ∷ bs) h = refl
 -- ---- a header
 
 pub header_again : (name : List ℕ) → is_name name ≡ true → header_at (name ++ 58 ∷ []) ≡ Ok (text_of name (length (name ++ 58 ∷ [])))
-unfolding header_at sign_at
 header_again name h =
-    let all = name_takes name h in
-    rw (front_is (takes kind.Name) name (58 ∷ []) all refl, behind_is (takes kind.Name) name (58 ∷ []) all refl) refl
+    spelled_again (name ++ 58 ∷ []) (text_of name (length (name ++ 58 ∷ []))) (record { behind_name = []; behind_sign = []; text = refl; run = name_takes name h; gaps = (refl, refl); place = refl })
 
 pub header_no_equals : (name : List ℕ) → is_name name ≡ true → list_any (λ b. b == 61) (name ++ 58 ∷ []) ≡ false
 header_no_equals name h =

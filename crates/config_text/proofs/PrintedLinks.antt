@@ -1,5 +1,5 @@
 -- A link is printed as it is spelled, so that it is read again, and a line keeps it.
-use Rattle.std.proofs.Common.{◌≡◌, ℕ, ◌+◌, ◌≤◌, Bool, true, false, cond, ◌&&◌, ◌==◌, List, [], ◌∷◌, ◌++◌, length, Result, Ok, Option, Some, None, refl, ap, sym, subst, ◌∙◌, append_assoc, append-nil, arith}
+use Rattle.std.proofs.Common.{◌≡◌, ℕ, ◌+◌, ◌≤◌, Bool, true, false, cond, ◌&&◌, ◌==◌, List, [], ◌∷◌, ◌++◌, length, Result, Ok, Option, Some, None, refl, ap, sym, subst, append_assoc, append-nil, arith}
 use Rattle.std.specs.Prelude.{codes}
 use Rattle.std.specs.List.{list_all, list_any}
 use Rattle.std.specs.Fmt.{decimal}
@@ -43,13 +43,8 @@ printed_by true r e good =
     let both = and_parts (r.a == 0) (r.b == 100) e in
     let first : r.a ≡ 0 = eqb-true r.a 0 both.0 in
     let last : r.b ≡ 100 = eqb-true r.b 100 both.1 in
-    let whole : range_of 0 100 ≡ r = sym (ap (λ (n : ℕ). range_of n r.b) first ∙ ap (λ (n : ℕ). range_of 0 n) last) in
-    record {
-      spelled = λ left. refl;
-      judged = λ left. ap (λ (k : Range). let a : Result Range Fault = Ok k in a) whole;
-      plain = refl;
-      clean = λ name c. subst IsClean (sym (append-nil name)) c;
-    }
+    let whole : range_of 0 100 ≡ range_of r.a r.b = cc in
+    record { spelled = λ left. refl; judged = λ left. ap (λ (k : Range). let a : Result Range Fault = Ok k in a) whole; plain = refl; clean = λ name c. subst IsClean (sym (append-nil name)) c }
 printed_by false r e good =
     let inner = ((codes "(" ++ decimal r.a) ++ codes ",") ++ decimal r.b in
     let first : r.a ≤ 100 = omega (arith, good.some, good.within) in
