@@ -1,6 +1,6 @@
 -- Names that are printed are read again.
-use Rattle.std.proofs.Common.{◌≡◌, ℕ, true, false, not, ◌==◌, List, [], ◌∷◌, ◌++◌, length, Ok, refl, ◌∙◌, arith}
-use Rattle.std.specs.List.{list_all, list_any}
+use Rattle.std.proofs.Common.{◌≡◌, ℕ, true, false, not, ◌==◌, List, [], ◌∷◌, ◌++◌, length, Ok, refl, arith}
+use Rattle.std.specs.List.{list_all}
 use Rattle.std.proofs.lemmas.Bool.{both_ways, not_from_false}
 use Rattle.std.proofs.lemmas.Bool.Decides.{nat_tests}
 use Rattle.std.proofs.lemmas.List.Folds.{list_any-append}
@@ -35,7 +35,7 @@ name_byte_allowed b h = grind (arith, nat_tests)
 pub name_byte_no_comment : (b : ℕ) → is_name_byte b ≡ true → (b == 35) ≡ false
 name_byte_no_comment b h = differs is_name_byte b 35 h refl
 
-pub name_byte_no_equals : (b : ℕ) → is_name_byte b ≡ true → (b == 61) ≡ false
+name_byte_no_equals : (b : ℕ) → is_name_byte b ≡ true → (b == 61) ≡ false
 name_byte_no_equals b h = differs is_name_byte b 61 h refl
 
 pub name_byte_no_colon : (b : ℕ) → is_name_byte b ≡ true → (b == 58) ≡ false
@@ -56,11 +56,8 @@ pub header_again : (name : List ℕ) → is_name name ≡ true → header_at (na
 header_again name h =
     spelled_again (name ++ 58 ∷ []) (text_of name (length (name ++ 58 ∷ []))) (record { behind_name = []; behind_sign = []; text = refl; run = name_takes name h; gaps = (refl, refl); place = refl })
 
-pub header_no_equals : (name : List ℕ) → is_name name ≡ true → list_any (λ b. b == 61) (name ++ 58 ∷ []) ≡ false
-header_no_equals name h =
-    let none = all_weaker is_name_byte (λ b. not (b == 61)) (λ b k. not_from_false (b == 61) (name_byte_no_equals b k)) name (name_bytes name h) in
-    list_any-append (λ b. b == 61) name (58 ∷ []) ∙ rw (any_none (λ b. b == 61) name none) refl
-
 pub is_header_again : (name : List ℕ) → is_name name ≡ true → is_header (name ++ 58 ∷ []) ≡ true
 unfolding is_header
-is_header_again name h = rw (last_is name 58, header_no_equals name h) refl
+is_header_again name h =
+    let none = all_weaker is_name_byte (λ b. not (b == 61)) (λ b k. not_from_false (b == 61) (name_byte_no_equals b k)) name (name_bytes name h) in
+    rw (last_is name 58, list_any-append (λ b. b == 61) name (58 ∷ []), any_none (λ b. b == 61) name none) refl

@@ -1,13 +1,13 @@
 -- Options that are printed are read again.
 use Rattle.std.proofs.Common.{◌≡◌, ℕ, Bool, true, false, ◌==◌, List, [], ◌∷◌, ◌++◌, length, Some, Ok, refl, ap, sym, subst, ◌∙◌, append_assoc}
-use Rattle.std.specs.Prelude.{codes, slice_get, is_some}
+use Rattle.std.specs.Prelude.{codes, slice_get}
 use Rattle.std.specs.List.{list_any}
 use Rattle.std.proofs.Math.Bool.{or-true}
 use Rattle.std.proofs.lemmas.Bool.{and_parts, and_right}
 use Rattle.std.proofs.lemmas.List.Folds.{list_any-append}
 use Rattle.std.proofs.Math.Seq.{set-append_seam}
 use Rattle.text_lines.specs.declared.bytes.WordKind.TheVariants as kind
-use Rattle.text_lines.specs.Bytes.{takes, front, behind, unblanked}
+use Rattle.text_lines.specs.Bytes.{takes, unblanked}
 use Rattle.text_lines.specs.Reading.{begins}
 use Rattle.text_lines.proofs.CleanWords.{IsClean, clean_around}
 use Rattle.text_lines.proofs.WordsAgain.{behind_is, text_of}
@@ -21,7 +21,6 @@ use Rattle.option_table.specs.Printed.{value_text, option_text, option_lines}
 use Rattle.option_table.proofs.PrintedAgain.{key_again, row_value_again}
 use Rattle.option_table.proofs.PrintedBytes.{key_bytes, key_some, key_clean, row_value_clean}
 use Rattle.option_table.proofs.SettingsAgain.{settings_again}
-use Rattle.hotkey_text.specs.Names.{trigger_named}
 use Rattle.hotkey_text.specs.Shapes.{is_hotkey}
 use Rattle.config_text.specs.declared.sections.Section.TheVariants as section
 use Rattle.config_text.specs.declared.screens.Screen.{Screen}
@@ -35,9 +34,6 @@ use Rattle.config_text.proofs.Spelled.{setting_again}
 use Rattle.config_text.proofs.Runs.{ReadsText, ReadsTextBelow, no_text, no_text_below, text_both, text_below_both, line_below, line_of_text}
 
 -- ---- a line KEY = VALUE
-
-abbrev value_behind : OptionName → ℕ → List ℕ
-value_behind o v = 32 ∷ 61 ∷ 32 ∷ value_text (row_of o).form v
 
 abbrev setting_read : OptionName → ℕ → SettingText
 setting_read o v = record { key = text_of (row_of o).key (length (option_text o v)); value = text_of (value_text (row_of o).form v) (length (value_text (row_of o).form v)) }
@@ -107,10 +103,9 @@ own_again c name values h =
 -- and it is none of a hotkey
 no_hotkey : (o : OptionName) (v : ℕ) → is_hotkey (option_text o v) ≡ false
 no_hotkey o v =
-    let text = (row_of o).key ++ value_behind o v in
-    ap is_hotkey (append_assoc (row_of o).key (codes " = ") (value_text (row_of o).form v))
-    ∙ and_right (is_some (trigger_named (front (takes kind.Key) text))) (begins 40 (unblanked (behind (takes kind.Key) text)))
-    (rw (behind_is (takes kind.Key) (row_of o).key (value_behind o v) (key_bytes o) refl) refl)
+    let value = 32 ∷ 61 ∷ 32 ∷ value_text (row_of o).form v in
+    let no_bracket = ap (λ (t : List ℕ). begins 40 (unblanked t)) (behind_is (takes kind.Key) (row_of o).key value (key_bytes o) refl) in
+    ap is_hotkey (append_assoc (row_of o).key (codes " = ") (value_text (row_of o).form v)) ∙ and_right _ _ no_bracket
 
 abbrev with_settings : Configuration → Values → Configuration
 with_settings c values = record c { settings = values }

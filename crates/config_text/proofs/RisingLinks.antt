@@ -1,21 +1,23 @@
 -- Links of a list, picked in rising order of screen, side and place.
-use Rattle.std.proofs.Common.{◌≡◌, ℕ, zero, suc, ◌+◌, ◌*◌, ◌<◌, ◌≤◌, Bool, true, false, cond, ◌&&◌, ◌==◌, List, [], ◌∷◌, ◌++◌, length, get_or, Option, Some, None, nat_le, refl, ap, sym, subst, ◌∙◌, inl, inr, arith}
+use Rattle.std.proofs.Common.{◌≡◌, ℕ, zero, suc, ◌+◌, ◌*◌, ◌<◌, ◌≤◌, Bool, true, false, List, [], ◌∷◌, ◌++◌, length, get_or, Option, Some, None, nat_le, refl, ap, sym, subst, ◌∙◌, inl, inr, arith}
 use Rattle.std.specs.Prelude.{Contains, filter}
 use Rattle.std.specs.List.{flat_map, find, list_any, range_with_len}
 use Rattle.std.specs.Option.{option_to_list}
 use Rattle.std.proofs.lemmas.List.{get_or_default}
 use Rattle.std.proofs.lemmas.List.Sums.{length-filter, count_by-le-length}
-use Rattle.std.proofs.lemmas.Bool.{and_parts, eqb-true, cases_order, or_from, false_from_ne_true, le-leb, lt-leb, leb-true, both_ways}
+use Rattle.std.proofs.lemmas.Bool.{cases_order, or_from, false_from_ne_true, le-leb, lt-leb, leb-true}
 use Rattle.share_base.specs.declared.shape.Side.{Side}
 use Rattle.share_base.specs.declared.shape.Side.TheVariants.{Left, Right, Up, Down}
 use Rattle.screen_links.specs.declared.link.Link.{Link}
 use Rattle.screen_links.specs.Apart.{Apart, AreApart}
 use Rattle.screen_links.proofs.OneLink.{apart_at}
+use Rattle.hotkey_rules.proofs.FirstFound.{found_listed}
 use Rattle.config_text.specs.Configurations.{Configuration}
-use Rattle.config_text.specs.Judging.{overlaps, same_side}
+use Rattle.config_text.specs.Judging.{overlaps}
 use Rattle.config_text.specs.Values.{begins_at, link_beginning, links_on, links_in, hundredths, numbers_of}
-use Rattle.config_text.proofs.Overlapping.{overlaps_blocks, one_side}
+use Rattle.config_text.proofs.Overlapping.{overlaps_blocks}
 use Rattle.config_text.proofs.Picking.{filter_map_flat}
+use Rattle.config_text.proofs.ValuesAgain.{begins}
 
 -- ---- the order
 
@@ -46,32 +48,13 @@ rises_both links low middle high (l ∷ ls) ms r q = (r.0, r.1, rises_both links
 
 -- ---- what is picked
 
-pub later : (links : List Link) (x l : Link) → Contains links l → Contains (x ∷ links) l
-later links x l (k, within, is) = (suc k, omega arith, is)
-
-first_by : (t : Bool) (p : Link → Bool) (x : Link) (xs : List Link) (l : Link) → p x ≡ t → (find p xs ≡ Some l → Contains xs l × (p l ≡ true)) → cond t (Some x) (find p xs) ≡ Some l → Contains (x ∷ xs) l × (p l ≡ true)
-first_by true p x xs l e rest h =
-    let same : x ≡ l = cc in
-    subst (λ (k : Link). Contains (x ∷ xs) k × (p k ≡ true)) same ((0, omega arith, refl), e)
-first_by false p x xs l e rest h = let there = rest h in (later xs x l there.0, there.1)
-
-pub found_in : (p : Link → Bool) (xs : List Link) (l : Link) → find p xs ≡ Some l → Contains xs l × (p l ≡ true)
-found_in p [] l h = absurd cc
-found_in p (x ∷ xs) l h = first_by (p x) p x xs l refl (found_in p xs l) h
-
 rank_is : (n : ℕ) (side : Side) (a : ℕ) (l : Link) → begins_at n side a l ≡ true → rank_of l ≡ rank n side a
-rank_is n side a l e =
-    let outer = and_parts ((l.from.0 == n) && same_side l.side side) (l.range.a == a) e in
-    let inner = and_parts (l.from.0 == n) (same_side l.side side) outer.0 in
-    let screen : l.from.0 ≡ n = eqb-true l.from.0 n inner.0 in
-    let place : l.range.a ≡ a = eqb-true l.range.a a outer.1 in
-    let there : side_number side ≡ side_number l.side = ap side_number (one_side l.side side inner.1) in
-    omega arith
+rank_is n side a l e = let here = begins n side a l e in omega (arith, here.screen, here.place, ap side_number here.there)
 
 one_picked : (links : List Link) (n : ℕ) (side : Side) (a : ℕ) (o : Option Link) → find (begins_at n side a) links ≡ o → Rises links (rank n side a) (option_to_list o) (rank n side a + 1)
 one_picked links n side a None h = omega arith
 one_picked links n side a (Some l) h =
-    let there = found_in (begins_at n side a) links l h in
+    let there = found_listed (begins_at n side a) links l h in
     let same : rank_of l ≡ rank n side a = rank_is n side a l there.1 in
     (omega arith, there.0, omega arith)
 
@@ -162,23 +145,9 @@ none_before links low high (k ∷ taken) l back apart r =
 abbrev from_rank : ℕ → Link → Bool
 from_rank low l = nat_le low (rank_of l)
 
-more_by : (s t : Bool) (p q : Link → Bool) (x : Link) (xs : List Link) → p x ≡ s → q x ≡ t → (p x ≡ true → q x ≡ true) → length (filter p xs) ≤ length (filter q xs)
-    → length (cond s (x ∷ filter p xs) (filter p xs)) ≤ length (cond t (x ∷ filter q xs) (filter q xs))
-more_by true true p q x xs e f w h = omega arith
-more_by true false p q x xs e f w h = absurd (both_ways (q x) f (w e))
-more_by false true p q x xs e f w h = omega arith
-more_by false false p q x xs e f w h = h
-
 more_pass : (p q : Link → Bool) → ((x : Link) → p x ≡ true → q x ≡ true) → (xs : List Link) → length (filter p xs) ≤ length (filter q xs)
 more_pass p q w [] = omega arith
-more_pass p q w (x ∷ xs) = more_by (p x) (q x) p q x xs refl refl (w x) (more_pass p q w xs)
-
-one_more_by : (s t : Bool) (p q : Link → Bool) (x : Link) (xs : List Link) → p x ≡ s → q x ≡ t → (p x ≡ true → q x ≡ true) → length (filter p xs) + 1 ≤ length (filter q xs)
-    → length (cond s (x ∷ filter p xs) (filter p xs)) + 1 ≤ length (cond t (x ∷ filter q xs) (filter q xs))
-one_more_by true true p q x xs e f w h = omega arith
-one_more_by true false p q x xs e f w h = absurd (both_ways (q x) f (w e))
-one_more_by false true p q x xs e f w h = omega arith
-one_more_by false false p q x xs e f w h = h
+more_pass p q w (x ∷ xs) = grind (arith, w x, more_pass p q w xs)
 
 one_more_passes : (p q : Link → Bool) → ((x : Link) → p x ≡ true → q x ≡ true) → (xs : List Link) (i : ℕ) (l : Link) → i < length xs → get_or xs i l ≡ l → p l ≡ false → q l ≡ true
     → length (filter p xs) + 1 ≤ length (filter q xs)
@@ -187,7 +156,7 @@ one_more_passes p q w (x ∷ xs) zero l within is fails passes =
     let f : p x ≡ false = ap p is ∙ fails in
     let t : q x ≡ true = ap q is ∙ passes in
     rw (f, t) (omega (arith, more_pass p q w xs))
-one_more_passes p q w (x ∷ xs) (suc i) l within is fails passes = one_more_by (p x) (q x) p q x xs refl refl (w x) (one_more_passes p q w xs i l (omega arith) is fails passes)
+one_more_passes p q w (x ∷ xs) (suc i) l within is fails passes = grind (arith, w x, one_more_passes p q w xs i l (omega arith) is fails passes)
 
 rises_few : (links : List Link) (low high : ℕ) (ls : List Link) → Rises links low ls high → length ls ≤ length (filter (from_rank low) links)
 rises_few links low high [] r = omega arith

@@ -1,10 +1,10 @@
 -- Each alias and each link of a sound configuration is in its value.
-use Rattle.std.proofs.Common.{◌≡◌, ℕ, zero, suc, ◌+◌, ◌<◌, ◌≤◌, true, not, ◌==◌, ◌&&◌, List, get_or, Option, Some, None, refl, ap, sym, ◌∙◌, inl, inr, arith}
+use Rattle.std.proofs.Common.{◌≡◌, ℕ, zero, suc, ◌+◌, ◌<◌, ◌≤◌, true, not, ◌==◌, ◌&&◌, List, [], ◌∷◌, get_or, Option, Some, None, refl, ap, sym, ◌∙◌, inl, inr, arith}
 use Rattle.std.specs.Prelude.{All, Contains}
 use Rattle.std.specs.List.{filter_map, cons_option, find, range_with_len}
 use Rattle.std.proofs.lemmas.Bool.{and_from, both_ways, cases_order, eq-eqb, not-true}
 use Rattle.std.proofs.lemmas.List.{get_or_default}
-use Rattle.std.proofs.lemmas.List.Elements.{All-contains}
+use Rattle.std.proofs.lemmas.List.Elements.{All-contains, Contains-append_right}
 use Rattle.std.proofs.lemmas.Option.{slice_get-get_or}
 use Rattle.share_base.specs.declared.numbers.ScreenNo.{ScreenNo}
 use Rattle.share_base.proofs.ListTests.{all_at, none_of_find}
@@ -12,12 +12,12 @@ use Rattle.screen_links.specs.declared.link.Link.{Link}
 use Rattle.screen_links.specs.Adding.{HasGoodRanges}
 use Rattle.screen_links.specs.Apart.{Apart, AreApart}
 use Rattle.screen_links.proofs.OneLink.{apart_at}
+use Rattle.hotkey_rules.proofs.FirstFound.{found_listed}
 use Rattle.config_text.specs.Configurations.{Configuration}
 use Rattle.config_text.specs.Judging.{same_side}
 use Rattle.config_text.specs.Sound.{IsSound}
 use Rattle.config_text.specs.Values.{begins_at, hundredths, link_beginning, links_on}
 use Rattle.config_text.proofs.Overlapping.{same_side_refl}
-use Rattle.config_text.proofs.RisingLinks.{found_in, later}
 use Rattle.config_text.proofs.ValuesAgain.{begins}
 
 -- a link begins where it begins
@@ -47,14 +47,14 @@ is_found links l None apart ranges (i, within, is) e =
     (slice_get-get_or links i l within ∙ ap (λ (k : Link). let o : Option Link = Some k in o) is) in
     absurd (both_ways (begins_at l.from.0 l.side l.range.a l) (not-true _ fails) (begins_there l))
 is_found links l (Some k) apart ranges there e =
-    let found = found_in (begins_at l.from.0 l.side l.range.a) links k e in
+    let found = found_listed (begins_at l.from.0 l.side l.range.a) links k e in
     let place = begins l.from.0 l.side l.range.a k found.1 in
     let from : k.from ≡ l.from = ap (λ (n : ℕ). let s : ScreenNo = record { 0 = n } in s) place.screen in
     ap (λ (x : Link). let o : Option Link = Some x in o) (one_there links k l apart ranges found.0 there from (sym place.there) place.place)
 
 behind_by : (o : Option Link) (xs : List Link) (l : Link) → Contains xs l → Contains (cons_option o xs) l
 behind_by None xs l c = c
-behind_by (Some x) xs l c = later xs x l c
+behind_by (Some x) xs l c = Contains-append_right (x ∷ []) xs l c
 
 first_by : (o : Option Link) (xs : List Link) (l : Link) → o ≡ Some l → Contains (cons_option o xs) l
 first_by None xs l e = absurd cc
