@@ -58,15 +58,8 @@ screen_found c n a lt = rw (place_again c.screens n a.others lt) refl
 
 -- a text can spell the actions of a configuration
 has_word : (c : Configuration) (a : Action) → AreNamed c.screens → action_below (length c.screens) a ≡ true → has_screen_word a (screen_in c a) ≡ true
-has_word c (action.KeyStroke id mods button) n h = refl
-has_word c (action.KeyPress id mods button) n h = refl
-has_word c (action.KeyRelease id mods button) n h = refl
-has_word c (action.MouseClick mods b) n h = refl
-has_word c (action.MousePress mods b) n h = refl
-has_word c (action.MouseRelease mods b) n h = refl
-has_word c (action.Lock mode) n h = refl
 has_word c (action.SwitchTo screen) n h = screen_word c screen.0 n (ltb-true screen.0 (length c.screens) h)
-has_word c (action.SwitchToward side) n h = refl
+has_word c a n h = refl
 
 spelled : (c : Configuration) → AreNamed c.screens → (a : Action) → is_action_among (length c.screens) a ≡ true → is_spelled a (screen_in c a) ≡ true
 spelled c n a h =
@@ -76,15 +69,8 @@ spelled c n a h =
 -- its words mean it, but for its key's button
 meant_again : (c : Configuration) (a : Action) (left : ℕ) → AreNamed c.screens → action_below (length c.screens) a ≡ true → meant c (words_of a (screen_in c a) left) ≡ Ok (bare a)
 unfolding screen_named
-meant_again c (action.KeyStroke id mods button) left n h = refl
-meant_again c (action.KeyPress id mods button) left n h = refl
-meant_again c (action.KeyRelease id mods button) left n h = refl
-meant_again c (action.MouseClick mods b) left n h = refl
-meant_again c (action.MousePress mods b) left n h = refl
-meant_again c (action.MouseRelease mods b) left n h = refl
-meant_again c (action.Lock mode) left n h = refl
 meant_again c (action.SwitchTo screen) left n h = rw (screen_found c screen.0 n (ltb-true screen.0 (length c.screens) h)) refl
-meant_again c (action.SwitchToward side) left n h = refl
+meant_again c a left n h = refl
 
 action_again : (c : Configuration) (a : Action) (form : ActionForm) → AreNamed c.screens → is_action_among (length c.screens) a ≡ true → HasWordsOf a (screen_in c a) form
     → action_of c form ≡ Ok (bare a)

@@ -87,9 +87,7 @@ room_for c taken l back s e = omega (arith, no_more c.links 0 (400 * length c.sc
 
 by_side : (side : Side) (from n a : ℕ) → a < 100 → 400 * n ≤ rank from side a → rank from side a < 400 * (n + 1) → from ≡ n
 by_side Left from n a small low high = omega arith
-by_side Right from n a small low high = omega arith
-by_side Up from n a small low high = omega arith
-by_side Down from n a small low high = omega arith
+by_side side from n a small low high = omega arith
 
 screen_of_rank : (c : Configuration) (n : ℕ) (l : Link) → IsSound c → Contains c.links l → 400 * n ≤ rank_of l → rank_of l < 400 * (n + 1) → l.from.0 ≡ n
 screen_of_rank c n l s there low high =

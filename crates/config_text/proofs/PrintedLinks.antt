@@ -119,9 +119,7 @@ link_equals side range name onto = simp (list_any-append, or-true)
 
 clean_side : (side : Side) → IsClean (side_text side)
 clean_side Left = clean_solid (codes "left") refl refl (omega arith)
-clean_side Right = clean_solid (codes "right") refl refl (omega arith)
-clean_side Up = clean_solid (codes "up") refl refl (omega arith)
-clean_side Down = clean_solid (codes "down") refl refl (omega arith)
+clean_side side = clean_solid (side_text side) refl refl (omega arith)
 
 pub link_clean : (side : Side) (range : Range) (name : List ℕ) (onto : Range) → IsGood range → is_name name ≡ true → IsGood onto → IsClean (link_words side range name onto)
 link_clean side range name onto good named good_onto =
