@@ -7,7 +7,7 @@ use Rattle.std.proofs.lemmas.Option.{slice_get-get_or}
 use Rattle.std.proofs.lemmas.List.Concat.{flat_map-append}
 use Rattle.std.proofs.lemmas.List.Elements.{All-contains}
 use Rattle.share_base.specs.declared.shape.Side.{Side}
-use Rattle.share_base.specs.declared.shape.Side.TheVariants.{Left, Right, Up, Down}
+use Rattle.share_base.specs.declared.shape.Side.TheVariants.{Left}
 use Rattle.share_base.proofs.ListTests.{all_at}
 use Rattle.screen_links.specs.declared.link.Link.{Link}
 use Rattle.screen_links.specs.Adding.{HasGoodRanges}

@@ -1,7 +1,7 @@
 -- A link overlaps another, as a test and as a fact.
 use Rattle.std.proofs.Common.{◌≡◌, ℕ, zero, suc, ◌<◌, Bool, true, false, ◌&&◌, ◌||◌, ◌==◌, List, [], ◌∷◌, length, get_or, min, max, refl, ap, sym, ◌∙◌, nat_lt, arith}
 use Rattle.std.specs.List.{list_any}
-use Rattle.std.proofs.lemmas.Bool.{lt-ltb, eqb-true, false_from_ne_true, and_parts}
+use Rattle.std.proofs.lemmas.Bool.{or_right, lt-ltb, eqb-true, false_from_ne_true, and_parts}
 use Rattle.std.proofs.Common.{eq-eqb}
 use borrow.Author.Tests.{ltb-true}
 use Rattle.share_base.specs.declared.shape.Side.{Side}
@@ -10,10 +10,6 @@ use Rattle.share_base.specs.declared.numbers.ScreenNo.{ScreenNo}
 use Rattle.screen_links.specs.declared.link.Link.{Link}
 use Rattle.screen_links.specs.Adding.{Blocks, Overlaps, IsFree}
 use Rattle.config_text.specs.Judging.{overlaps, same_side}
-
-or_right : (a b : Bool) → b ≡ true → (a || b) ≡ true
-or_right true b e = refl
-or_right false b e = e
 
 pub any_there : {A : Type 0} (p : A → Bool) (xs : List A) (k : ℕ) (x : A) → k < length xs → get_or xs k x ≡ x → p x ≡ true → list_any p xs ≡ true
 any_there p [] k x h e t = absurd (omega arith)
@@ -42,21 +38,10 @@ same_side_refl Down = refl
 
 pub one_side : (s t : Side) → same_side s t ≡ true → t ≡ s
 one_side Left Left e = refl
-one_side Left Right e = absurd cc
-one_side Left Up e = absurd cc
-one_side Left Down e = absurd cc
-one_side Right Left e = absurd cc
 one_side Right Right e = refl
-one_side Right Up e = absurd cc
-one_side Right Down e = absurd cc
-one_side Up Left e = absurd cc
-one_side Up Right e = absurd cc
 one_side Up Up e = refl
-one_side Up Down e = absurd cc
-one_side Down Left e = absurd cc
-one_side Down Right e = absurd cc
-one_side Down Up e = absurd cc
 one_side Down Down e = refl
+one_side s t e = absurd cc
 
 three : (a b c : Bool) → a ≡ true → b ≡ true → c ≡ true → (a && b && c) ≡ true
 three a b c h k m = rw (h, k, m) refl

@@ -7,7 +7,7 @@ use Rattle.std.proofs.Math.Bool.{or-true}
 use Rattle.std.proofs.lemmas.Bool.{and_parts, eqb-true, lt-ltb, le-leb, agree_below_at}
 use Rattle.std.proofs.lemmas.List.Folds.{list_any-append}
 use Rattle.share_base.specs.declared.shape.Side.{Side}
-use Rattle.share_base.specs.declared.shape.Side.TheVariants.{Left, Right, Up, Down}
+use Rattle.share_base.specs.declared.shape.Side.TheVariants.{Left}
 use Rattle.share_base.specs.Names.{is_name}
 use Rattle.share_base.specs.Sides.{side_text}
 use Rattle.share_base.proofs.ListTests.{all_append}
