@@ -1,5 +1,5 @@
 -- Hotkeys that are printed are read again.
-use Rattle.std.proofs.Common.{◌≡◌, ℕ, ◌<◌, true, ◌&&◌, ◌==◌, List, [], ◌∷◌, ◌++◌, length, map, Some, Ok, refl, ap, sym, subst, ◌∙◌, append_assoc, append-nil, inl, inr, arith}
+use Rattle.std.proofs.Common.{◌≡◌, ℕ, ◌<◌, true, ◌&&◌, ◌==◌, List, [], ◌∷◌, ◌++◌, length, map, Ok, refl, ap, sym, subst, ◌∙◌, append_assoc, append-nil, inl, inr, arith}
 use Rattle.std.specs.Prelude.{nat_le}
 use Rattle.std.specs.List.{list_all, flat_map}
 use Rattle.std.proofs.lemmas.Bool.{and_parts, and_from, not_from_false, or_cases, eqb-true, leb-true, ltb-true}
@@ -50,10 +50,6 @@ screen_word c n a lt =
     and_from _ _ (not_from_false _ (name_some (name_of c n) name))
     (all_weaker is_name_byte is_argument_byte (each_byte is_name_byte is_argument_byte name_below refl) (name_of c n) (name_bytes (name_of c n) name))
 
-screen_found : (c : Configuration) (n : ℕ) → AreNamed c.screens → n < length c.screens → screen_of c (name_of c n) ≡ Some n
-unfolding screen_of
-screen_found c n a lt = rw (place_again c.screens n a.others lt) refl
-
 -- ---- actions
 
 -- a text can spell the actions of a configuration
@@ -68,8 +64,8 @@ spelled c n a h =
 
 -- its words mean it, but for its key's button
 meant_again : (c : Configuration) (a : Action) (left : ℕ) → AreNamed c.screens → action_below (length c.screens) a ≡ true → meant c (words_of a (screen_in c a) left) ≡ Ok (bare a)
-unfolding screen_named
-meant_again c (action.SwitchTo screen) left n h = rw (screen_found c screen.0 n (ltb-true screen.0 (length c.screens) h)) refl
+unfolding screen_named screen_of
+meant_again c (action.SwitchTo screen) left n h = rw (place_again c.screens screen.0 n.others (ltb-true screen.0 (length c.screens) h)) refl
 meant_again c a left n h = refl
 
 action_again : (c : Configuration) (a : Action) (form : ActionForm) → AreNamed c.screens → is_action_among (length c.screens) a ≡ true → HasWordsOf a (screen_in c a) form
@@ -81,11 +77,10 @@ actions_again : (c : Configuration) (actions : List Action) (forms : List Action
     → HaveWordsOf (screen_in c) actions forms → actions_of c forms ≡ Ok (map bare actions)
 unfolding actions_of
 actions_again c [] [] n h w = refl
-actions_again c [] (form ∷ forms) n h w = absurd w
-actions_again c (a ∷ actions) [] n h w = absurd w
 actions_again c (a ∷ actions) (form ∷ forms) n h w =
     let parts = and_parts (is_action_among (length c.screens) a) (list_all (is_action_among (length c.screens)) actions) h in
     rw (action_again c a form n parts.0 w.0, actions_again c actions forms n parts.1 w.1) refl
+actions_again c actions forms n h w = absurd w
 
 -- ---- one hotkey behind those before it
 
@@ -137,16 +132,12 @@ hotkeys_from c front (rule ∷ rules) n s =
     text_both section.Options (with_hotkeys c front) (with_hotkeys c (front ++ rule ∷ [])) (with_hotkeys c (front ++ rule ∷ rules)) (hotkey_of c rule) (flat_map (hotkey_of c) rules) first
     (subst (λ (all : List Rule). ReadsText section.Options (with_hotkeys c (front ++ rule ∷ [])) (flat_map (hotkey_of c) rules) (with_hotkeys c all)) moved rest)
 
--- the hotkeys of a configuration are read into one that has the same screens, and no hotkeys yet
-pub hotkeys_again : (c : Configuration) (aliases : List Alias) (links : List Link) (settings : Values) → IsSound c
-    → ReadsText section.Options (with_parts c aliases links settings []) (hotkeys_text c) (with_parts c aliases links settings c.hotkeys)
-unfolding hotkey_of action_printed
-hotkeys_again c aliases links settings s = hotkeys_from (with_parts c aliases links settings []) [] c.hotkeys (sound_names c s) s.hotkeys
-
 -- the options for all screens, and the hotkeys behind them
 pub options_again : (c : Configuration) (aliases : List Alias) (links : List Link) → IsSound c
     → ReadsText section.Options (with_parts c aliases links none_set []) (options_text c) (with_parts c aliases links c.settings c.hotkeys)
+unfolding hotkey_of action_printed
 options_again c aliases links s =
     text_both section.Options (with_parts c aliases links none_set []) (with_parts c aliases links c.settings []) (with_parts c aliases links c.settings c.hotkeys)
     (option_lines one_tab c.settings) (hotkeys_text c)
-    (for_all_again (with_parts c aliases links none_set []) c.settings s.for_all refl) (hotkeys_again c aliases links c.settings s)
+    (for_all_again (with_parts c aliases links none_set []) c.settings s.for_all refl)
+    (hotkeys_from (with_parts c aliases links c.settings []) [] c.hotkeys (sound_names c s) s.hotkeys)

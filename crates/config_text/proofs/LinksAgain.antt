@@ -89,11 +89,6 @@ by_side : (side : Side) (from n a : ℕ) → a < 100 → 400 * n ≤ rank from s
 by_side Left from n a small low high = omega arith
 by_side side from n a small low high = omega arith
 
-screen_of_rank : (c : Configuration) (n : ℕ) (l : Link) → IsSound c → Contains c.links l → 400 * n ≤ rank_of l → rank_of l < 400 * (n + 1) → l.from.0 ≡ n
-screen_of_rank c n l s there low high =
-    let good = All-contains HasGoodRanges c.links l s.links.ranges there in
-    by_side l.side l.from.0 n l.range.a (omega (arith, good.0.some, good.0.within)) low high
-
 below_again : (c : Configuration) (aliases : List Alias) (taken ls back : List Link) (n low : ℕ) → IsSound c → all_links c ≡ taken ++ (ls ++ back) → Rises c.links low ls (400 * (n + 1)) → 400 * n ≤ low
     → ReadsTextBelow section.Links n (with_links c aliases taken) (texts_of c ls) (with_links c aliases (taken ++ ls))
 below_again c aliases taken [] back n low s parts r above =
@@ -101,7 +96,8 @@ below_again c aliases taken [] back n low s parts r above =
 below_again c aliases taken (l ∷ ls) back n low s parts r above =
     let split = subst (λ (links : List Link). Rises c.links 0 links (400 * length c.screens)) parts (all_rise c) in
     let free = none_before c.links 0 (400 * length c.screens) taken l (ls ++ back) s.links.apart split in
-    let screen : l.from.0 ≡ n = screen_of_rank c n l s r.1 (omega (arith, r.0)) (omega (arith, rises_le c.links (rank_of l + 1) (400 * (n + 1)) ls r.2)) in
+    let good = All-contains HasGoodRanges c.links l s.links.ranges r.1 in
+    let screen = by_side l.side l.from.0 n l.range.a (omega (arith, good.0.some, good.0.within)) (omega (arith, r.0)) (omega (arith, rises_le c.links (rank_of l + 1) (400 * (n + 1)) ls r.2)) in
     let from = with_links c aliases taken in
     let middle = with_links c aliases (taken ++ l ∷ []) in
     text_below_both section.Links n from middle (with_links c aliases (taken ++ l ∷ ls)) (link_text c l) (texts_of c ls)

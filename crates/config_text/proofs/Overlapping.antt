@@ -32,9 +32,7 @@ any_found p (y ∷ ys) h = found_by (p y) p y ys refl (any_found p ys) h
 
 pub same_side_refl : (s : Side) → same_side s s ≡ true
 same_side_refl Left = refl
-same_side_refl Right = refl
-same_side_refl Up = refl
-same_side_refl Down = refl
+same_side_refl s = refl
 
 pub one_side : (s t : Side) → same_side s t ≡ true → t ≡ s
 one_side Left Left e = refl
@@ -43,17 +41,15 @@ one_side Up Up e = refl
 one_side Down Down e = refl
 one_side s t e = absurd cc
 
-three : (a b c : Bool) → a ≡ true → b ≡ true → c ≡ true → (a && b && c) ≡ true
-three a b c h k m = rw (h, k, m) refl
-
 -- the fact that a link blocks another's place is the test
 pub blocks_overlaps : (l k : Link) → Blocks k l.from l.side l.range → overlaps l k ≡ true
 unfolding overlaps
 blocks_overlaps l k b =
-    three (l.from.0 == k.from.0) (same_side l.side k.side) (nat_lt (max l.range.a k.range.a) (min l.range.b k.range.b))
-    (eq-eqb l.from.0 k.from.0 (ap (λ (n : ScreenNo). n.0) (sym b.same_screen)))
-    (ap (same_side l.side) b.same_side ∙ same_side_refl l.side)
-    (lt-ltb _ _ (omega (arith, b.shared.1.0, b.shared.1.1, b.shared.2.0, b.shared.2.1)))
+    rw (
+      eq-eqb l.from.0 k.from.0 (ap (λ (n : ScreenNo). n.0) (sym b.same_screen)),
+      ap (same_side l.side) b.same_side ∙ same_side_refl l.side,
+      lt-ltb (max l.range.a k.range.a) (min l.range.b k.range.b) (omega (arith, b.shared.1.0, b.shared.1.1, b.shared.2.0, b.shared.2.1)),
+    ) refl
 
 pub overlaps_blocks : (l k : Link) → overlaps l k ≡ true → Blocks k l.from l.side l.range
 unfolding overlaps

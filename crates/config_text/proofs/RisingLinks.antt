@@ -140,10 +140,7 @@ more_pass p q w (x ∷ xs) = grind (arith, w x, more_pass p q w xs)
 one_more_passes : (p q : Link → Bool) → ((x : Link) → p x ≡ true → q x ≡ true) → (xs : List Link) (i : ℕ) (l : Link) → i < length xs → get_or xs i l ≡ l → p l ≡ false → q l ≡ true
     → length (filter p xs) + 1 ≤ length (filter q xs)
 one_more_passes p q w [] i l within is fails passes = absurd (omega arith)
-one_more_passes p q w (x ∷ xs) zero l within is fails passes =
-    let f : p x ≡ false = ap p is ∙ fails in
-    let t : q x ≡ true = ap q is ∙ passes in
-    rw (f, t) (omega (arith, more_pass p q w xs))
+one_more_passes p q w (x ∷ xs) zero l within is fails passes = rw (ap p is ∙ fails, ap q is ∙ passes) (omega (arith, more_pass p q w xs))
 one_more_passes p q w (x ∷ xs) (suc i) l within is fails passes = grind (arith, w x, one_more_passes p q w xs i l (omega arith) is fails passes)
 
 rises_few : (links : List Link) (low high : ℕ) (ls : List Link) → Rises links low ls high → length ls ≤ length (filter (from_rank low) links)
