@@ -11,7 +11,6 @@ use Rattle.std.proofs.lemmas.List.Folds.{list_all-map}
 use Rattle.std.proofs.lemmas.Option.{slice_get-get_or}
 use Rattle.share_base.specs.Names.{is_name, same_name}
 use Rattle.share_base.proofs.ListTests.{all_append, all_parts, all_at}
-use Rattle.share_base.proofs.NameBytes.{is_name_byte, name_bytes}
 use Rattle.text_lines.proofs.WordsAgain.{text_of}
 use Rattle.option_table.specs.Settings.{none_set}
 use Rattle.config_text.specs.declared.faults.Fault.{Fault}
@@ -26,7 +25,7 @@ use Rattle.config_text.specs.Sections.{is_header, in_section, alias_line}
 use Rattle.config_text.specs.Sound.{IsSound, all_names, apart, is_end}
 use Rattle.config_text.specs.Values.{names_screen, aliases_in, numbers_of}
 use Rattle.config_text.proofs.KnownAgain.{names_of, sound_names, aliases_headers, block_again}
-use Rattle.config_text.proofs.NamesAgain.{name_byte_no_colon, name_takes}
+use Rattle.config_text.proofs.NamesAgain.{name_passes, name_takes}
 use Rattle.config_text.proofs.NamesApart.{are_others, others_before, others_behind, unknown_if_others}
 use Rattle.config_text.proofs.NamesClean.{clean_name}
 use Rattle.config_text.proofs.Spelled.{alias_again}
@@ -45,8 +44,8 @@ unfolding is_header
 no_header name h =
     let last = length name - 1 in
     let some : last < length name = omega (arith, (clean_name name h).some) in
-    let byte = all_at is_name_byte name last (get_or name last 0) (name_bytes name h) (slice_get-get_or name last 0 some) in
-    and_left (get_or name last 0 == 58) _ (name_byte_no_colon (get_or name last 0) byte)
+    let byte = all_at (λ b. not (b == 58)) name last (get_or name last 0) (name_passes (λ b. not (b == 58)) refl name h) (slice_get-get_or name last 0 some) in
+    and_left (get_or name last 0 == 58) _ (not-true _ byte)
 
 alias_read : (c : Configuration) (n : ℕ) (name : List ℕ) (o : Opened) → is_name name ≡ true → screen_of c name ≡ None → length c.aliases < 256
     → in_section section.Aliases (draft_in o (Some n) c) name ≡ Ok (draft_in o (Some n) (with_alias c name n))

@@ -1,10 +1,8 @@
 -- Hotkeys that are printed are read again.
-use Rattle.std.proofs.Common.{◌≡◌, ℕ, ◌<◌, true, ◌&&◌, ◌==◌, List, [], ◌∷◌, ◌++◌, length, map, Ok, refl, ap, sym, subst, ◌∙◌, append_assoc, append-nil, inl, inr, arith}
-use Rattle.std.specs.Prelude.{nat_le}
+use Rattle.std.proofs.Common.{◌≡◌, ℕ, ◌<◌, true, List, [], ◌∷◌, ◌++◌, length, map, Ok, refl, ap, sym, subst, ◌∙◌, append_assoc, append-nil}
 use Rattle.std.specs.List.{list_all, flat_map}
-use Rattle.std.proofs.lemmas.Bool.{and_parts, and_from, not_from_false, or_cases, eqb-true, leb-true, ltb-true}
+use Rattle.std.proofs.lemmas.Bool.{and_parts, and_from, not_from_false, ltb-true}
 use Rattle.share_base.proofs.ListTests.{all_weaker, all_parts}
-use Rattle.share_base.proofs.NameBytes.{is_name_byte, name_bytes}
 use Rattle.hotkey_rules.specs.declared.action.Action.{Action}
 use Rattle.hotkey_rules.specs.declared.action.Action.TheVariants as action
 use Rattle.hotkey_rules.specs.declared.rule.Rule.{Rule}
@@ -12,7 +10,6 @@ use Rattle.hotkey_text.specs.Again.{is_argument_byte, is_screen_word, has_screen
 use Rattle.hotkey_text.specs.Printed.{trigger_text, hotkey_text}
 use Rattle.hotkey_text.specs.Shapes.{ActionForm}
 use Rattle.hotkey_text.specs.Spelled.{is_trigger, is_action}
-use Rattle.hotkey_text.proofs.ArgumentBytes.{each_byte}
 use Rattle.hotkey_text.proofs.LineBytes.{line_clean, line_equals}
 use Rattle.hotkey_text.proofs.LinesAgain.{line_again}
 use Rattle.screen_links.specs.declared.link.Link.{Link}
@@ -31,24 +28,18 @@ use Rattle.config_text.specs.Values.{name_of}
 use Rattle.config_text.proofs.CleanLines.{equals_no_end, equals_no_header}
 use Rattle.config_text.proofs.KeysAgain.{bare, actions_are, room_again, rule_again}
 use Rattle.config_text.proofs.KnownAgain.{AreNamed, is_name_again, place_again, sound_names}
-use Rattle.config_text.proofs.NamesAgain.{name_some, name_byte_allowed}
+use Rattle.config_text.proofs.NamesAgain.{name_passes}
+use Rattle.config_text.proofs.NamesClean.{clean_name}
+use Rattle.text_lines.proofs.SpelledWords.{filled_some}
 use Rattle.config_text.proofs.OptionsAgain.{for_all_again}
 use Rattle.config_text.proofs.Runs.{ReadsText, no_text, text_both, line_of_text}
 
 -- ---- the names of screens
 
-name_below : (b : ℕ) → is_name_byte b ≡ true → b < 127
-name_below b h =
-    elim (or_cases (b == 9) (nat_le 32 b && nat_le b 126) (name_byte_allowed b h)) [
-      | inl e ↦ omega (arith, eqb-true b 9 e)
-      | inr e ↦ omega (arith, leb-true b 126 (and_parts (nat_le 32 b) (nat_le b 126) e).1)
-    ]
-
 screen_word : (c : Configuration) (n : ℕ) → AreNamed c.screens → n < length c.screens → is_screen_word (name_of c n) ≡ true
 screen_word c n a lt =
     let name = is_name_again c n a lt in
-    and_from _ _ (not_from_false _ (name_some (name_of c n) name))
-    (all_weaker is_name_byte is_argument_byte (each_byte is_name_byte is_argument_byte name_below refl) (name_of c n) (name_bytes (name_of c n) name))
+    and_from _ _ (not_from_false _ (filled_some (name_of c n) (clean_name (name_of c n) name).some)) (name_passes is_argument_byte refl (name_of c n) name)
 
 -- ---- actions
 
