@@ -149,11 +149,8 @@ others_more c n done s others = λ front a back e h.
     (ap (list_all (is_other a.name)) whole
     ∙ all_append (is_other a.name) (filter (names_screen n) front) (filter (names_screen n) back) (all_kept (is_other a.name) (names_screen n) front apart_from.before) (all_kept (is_other a.name) (names_screen n) back apart_from.behind))
 
-abbrev by_screen : Configuration → ℕ → ℕ → List Alias
-by_screen c from len = flat_map (aliases_in c) (range_with_len from len)
-
 blocks_again : (c : Configuration) (n len : ℕ) (done : List Alias) → IsSound c → Others c n done → n + len ≤ length c.screens → length done ≡ length (filter (is_below n) c.aliases)
-    → ReadsText section.Aliases (with_aliases c done) (flat_map (aliases_of c) (range_with_len n len)) (with_aliases c (done ++ by_screen c n len))
+    → ReadsText section.Aliases (with_aliases c done) (flat_map (aliases_of c) (range_with_len n len)) (with_aliases c (done ++ flat_map (aliases_in c) (range_with_len n len)))
 unfolding aliases_of
 blocks_again c n zero done s others known count =
     subst (λ (k : List Alias). ReadsText section.Aliases (with_aliases c done) [] (with_aliases c k)) (sym (append-nil done)) (no_text section.Aliases (with_aliases c done))
@@ -164,12 +161,13 @@ blocks_again c n (suc len) done s others known count =
     omega (arith, length-append done own, length-filter (is_below (n + 1)) c.aliases, count_by-le-length (is_below (n + 1)) c.aliases, s.aliases) in
     let from = with_aliases c done in
     let middle = with_aliases c (done ++ own) in
+    let more = flat_map (aliases_in c) (range_with_len (n + 1) len) in
     let rest = flat_map (aliases_of c) (range_with_len (n + 1) len) in
     let below : ReadsTextBelow section.Aliases n from (flat_map (alias_text n) c.aliases) middle =
     subst (λ (k : List Alias). ReadsTextBelow section.Aliases n (with_aliases c k) (flat_map (alias_text n) c.aliases) middle) (append-nil done) (lines_again c n done [] c.aliases s refl others room) in
-    text_both section.Aliases from middle (with_aliases c (done ++ by_screen c n (suc len))) (aliases_of c n) rest
+    text_both section.Aliases from middle (with_aliases c (done ++ (own ++ more))) (aliases_of c n) rest
     (block_again section.Aliases n from middle (flat_map (alias_text n) c.aliases) aliases_headers (sound_names c s) (omega arith) below)
-    (subst (λ (k : List Alias). ReadsText section.Aliases middle rest (with_aliases c k)) (append_assoc done own (by_screen c (n + 1) len))
+    (subst (λ (k : List Alias). ReadsText section.Aliases middle rest (with_aliases c k)) (append_assoc done own more)
     (blocks_again c (n + 1) len (done ++ own) s (others_more c n done s others) (omega arith) next))
 
 none_below : (aliases : List Alias) → 0 ≡ length (filter (is_below 0) aliases)

@@ -90,13 +90,10 @@ and_side c n side next high ls h r = rises_both c.links (rank n side 0) next hig
 pub in_screen : (c : Configuration) (n : ℕ) → Rises c.links (400 * n) (links_in c n) (400 * (n + 1))
 in_screen c n =
     let high = 400 * (n + 1) in
-    let from_down : List Link = links_on c n Down ++ [] in
-    let from_up : List Link = links_on c n Up ++ from_down in
-    let from_right : List Link = links_on c n Right ++ from_up in
-    let down : Rises c.links (rank n Down 0) from_down high = and_side c n Down high high [] (omega arith) (omega arith) in
-    let up : Rises c.links (rank n Up 0) from_up high = and_side c n Up (rank n Down 0) high from_down (omega arith) down in
-    let right : Rises c.links (rank n Right 0) from_right high = and_side c n Right (rank n Up 0) high from_up (omega arith) up in
-    rises_wider c.links (400 * n) (rank n Left 0) high high (links_in c n) (omega arith) (omega arith) (and_side c n Left (rank n Right 0) high from_right (omega arith) right)
+    let down = and_side c n Down high high [] (omega arith) (omega arith) in
+    let up = and_side c n Up (rank n Down 0) high (links_on c n Down ++ []) (omega arith) down in
+    let right = and_side c n Right (rank n Up 0) high (links_on c n Up ++ (links_on c n Down ++ [])) (omega arith) up in
+    rises_wider c.links (400 * n) (rank n Left 0) high high (links_in c n) (omega arith) (omega arith) (and_side c n Left (rank n Right 0) high (links_on c n Right ++ (links_on c n Up ++ (links_on c n Down ++ []))) (omega arith) right)
 
 -- all that are picked
 pub all_rise : (c : Configuration) → Rises c.links 0 (flat_map (links_in c) (numbers_of c)) (400 * length c.screens)
