@@ -1,14 +1,14 @@
 -- Links that are printed are read again.
-use Rattle.std.proofs.Common.{◌≡◌, ℕ, zero, suc, ◌+◌, ◌*◌, ◌<◌, ◌≤◌, false, List, [], ◌∷◌, ◌++◌, length, Option, Some, None, nat_lt, refl, ap, sym, subst, ◌∙◌, append_assoc, append-nil, length-append, arith}
-use Rattle.std.specs.Prelude.{slice_get, Contains}
+use Rattle.std.proofs.Common.{◌≡◌, ℕ, zero, suc, ◌+◌, ◌*◌, ◌<◌, ◌≤◌, true, false, List, [], ◌∷◌, ◌++◌, length, Option, Some, None, nat_lt, refl, ap, sym, subst, ◌∙◌, append_assoc, append-nil, length-append, arith}
+use Rattle.std.specs.Prelude.{Contains}
 use Rattle.std.specs.List.{flat_map, list_any, range_with_len}
+use Rattle.std.specs.Option.{option_to_list}
 use Rattle.std.proofs.lemmas.Bool.{and_parts, ltb-true}
-use Rattle.std.proofs.lemmas.Option.{slice_get-get_or}
 use Rattle.std.proofs.lemmas.List.Concat.{flat_map-append}
 use Rattle.std.proofs.lemmas.List.Elements.{All-contains}
+use Rattle.std.proofs.lemmas.List.Sums.{AllPass-from_list_all}
 use Rattle.share_base.specs.declared.shape.Side.{Side}
 use Rattle.share_base.specs.declared.shape.Side.TheVariants.{Left}
-use Rattle.share_base.proofs.ListTests.{all_at}
 use Rattle.screen_links.specs.declared.link.Link.{Link}
 use Rattle.screen_links.specs.Adding.{HasGoodRanges}
 use Rattle.option_table.specs.Settings.{none_set}
@@ -25,7 +25,6 @@ use Rattle.config_text.proofs.CleanLines.{equals_no_end, equals_no_header}
 use Rattle.config_text.proofs.KnownAgain.{sound_names, is_name_again, known_again, links_headers, block_again}
 use Rattle.config_text.proofs.NewLinks.{link_taken}
 use Rattle.config_text.proofs.Picking.{filter_map_flat}
-use Rattle.std.specs.Option.{option_to_list}
 use Rattle.config_text.proofs.PrintedLinks.{printed, link_words, link_read, link_spelled, link_equals, link_clean}
 use Rattle.config_text.proofs.RisingLinks.{Rises, rank, rank_of, rises_le, none_before, no_more, in_screen, all_rise}
 use Rattle.config_text.proofs.SpelledLinks.{link_again}
@@ -56,9 +55,9 @@ abbrev with_links : Configuration → List Alias → List Link → Configuration
 with_links c aliases links = record { screens = c.screens; aliases = aliases; links = links; settings = none_set; hotkeys = [] }
 
 target_known : (c : Configuration) (l : Link) → IsSound c → Contains c.links l → l.to.0 < length c.screens
-target_known c l s (k, within, is) =
-    let there : slice_get c.links k ≡ Some l = slice_get-get_or c.links k l within ∙ ap (λ (x : Link). let o : Option Link = Some x in o) is in
-    ltb-true _ _ (and_parts (nat_lt l.from.0 (length c.screens)) (nat_lt l.to.0 (length c.screens)) (all_at (link_below (length c.screens)) c.links k l s.between_screens there)).1
+target_known c l s there =
+    let below = All-contains (λ (k : Link). link_below (length c.screens) k ≡ true) c.links l (AllPass-from_list_all (link_below (length c.screens)) c.links s.between_screens) there in
+    ltb-true _ _ (and_parts (nat_lt l.from.0 (length c.screens)) (nat_lt l.to.0 (length c.screens)) below).1
 
 line_again : (c : Configuration) (aliases : List Alias) (taken : List Link) (l : Link) → IsSound c → Contains c.links l → list_any (overlaps l) taken ≡ false → length taken < 1024
     → ReadsTextBelow section.Links l.from.0 (with_links c aliases taken) (link_text c l) (with_links c aliases (taken ++ l ∷ []))

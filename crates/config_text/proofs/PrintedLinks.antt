@@ -51,17 +51,20 @@ printed_by false r e good =
     let plain : list_all is_plain inner ≡ true =
     all_append is_plain ((codes "(" ++ decimal r.a) ++ codes ",") (decimal r.b) (all_append is_plain (codes "(" ++ decimal r.a) (codes ",") (decimal_plain r.a first) refl) (decimal_plain r.b good.within) in
     record {
-      spelled = λ left. (record {
-        first = decimal r.a;
-        second = decimal r.b;
-        behind_open = [];
-        behind_first = [];
-        behind_comma = [];
-        behind_second = [];
-        text = simp append_assoc;
-        numbers = ((refl, omega arith), (refl, omega (arith, good.within)));
-        gaps = (refl, refl, refl, refl);
-      }, refl);
+      spelled = λ left. (
+        record {
+          first = decimal r.a;
+          second = decimal r.b;
+          behind_open = [];
+          behind_first = [];
+          behind_comma = [];
+          behind_second = [];
+          text = simp append_assoc;
+          numbers = ((refl, omega arith), (refl, omega (arith, good.within)));
+          gaps = (refl, refl, refl, refl);
+        },
+        refl,
+      );
       judged = λ left. rw (lt-ltb r.a r.b good.some, le-leb r.b 100 good.within) refl;
       plain = all_append is_plain inner (codes ")") plain refl;
       clean = λ name c. subst IsClean (append_assoc name inner (codes ")")) (clean_around name inner (codes ")") c plain (clean_solid (codes ")") refl refl (omega arith)));
