@@ -1,5 +1,5 @@
 -- The aliases section is read again.
-use Rattle.std.proofs.Common.{◌≡◌, ℕ, zero, suc, ◌+◌, ◌-◌, ◌<◌, ◌≤◌, Bool, true, false, cond, not, ◌==◌, List, [], ◌∷◌, ◌++◌, length, length-append, map, get_or, Result, Ok, Some, None, nat_lt, refl, ap, sym, subst, ◌∙◌, append_assoc, append-nil, arith}
+use Rattle.std.proofs.Common.{◌≡◌, ℕ, zero, suc, ◌+◌, ◌-◌, ◌<◌, ◌≤◌, Bool, true, false, cond, not, ◌==◌, List, [], ◌∷◌, ◌++◌, length, length-append, map, get_or, Result, Ok, Some, nat_lt, refl, ap, sym, subst, ◌∙◌, append_assoc, append-nil, arith}
 use Rattle.std.specs.Prelude.{filter}
 use Rattle.std.specs.List.{flat_map, list_all, range_with_len}
 use Rattle.std.proofs.lemmas.Bool.{and_parts, and_left, not-true, lt-ltb, ne_eqb, eqb-true}
@@ -15,9 +15,8 @@ use Rattle.text_lines.proofs.WordsAgain.{text_of}
 use Rattle.option_table.specs.Settings.{none_set}
 use Rattle.config_text.specs.declared.faults.Fault.{Fault}
 use Rattle.config_text.specs.declared.screens.Alias.{Alias}
-use Rattle.config_text.specs.declared.sections.Opened.{Opened}
 use Rattle.config_text.specs.declared.sections.Section.TheVariants as section
-use Rattle.config_text.specs.Configurations.{Configuration, screen_of, with_alias}
+use Rattle.config_text.specs.Configurations.{Configuration}
 use Rattle.config_text.specs.Drafts.{Draft}
 use Rattle.config_text.specs.Judging.{new_alias}
 use Rattle.config_text.specs.Normal.{alias_text, aliases_of, aliases_text, two_tabs}
@@ -37,8 +36,6 @@ alias_names aliases = map (λ (a : Alias). a.name) aliases
 abbrev is_other : List ℕ → Alias → Bool
 is_other name a = not (same_name a.name name)
 
--- ---- one line
-
 no_header : (name : List ℕ) → is_name name ≡ true → is_header name ≡ false
 unfolding is_header
 no_header name h =
@@ -46,13 +43,6 @@ no_header name h =
     let some : last < length name = omega (arith, (clean_name name h).some) in
     let byte = all_at (λ b. not (b == 58)) name last (get_or name last 0) (name_passes (λ b. not (b == 58)) refl name h) (slice_get-get_or name last 0 some) in
     and_left (get_or name last 0 == 58) _ (not-true _ byte)
-
-alias_read : (c : Configuration) (n : ℕ) (name : List ℕ) (o : Opened) → is_name name ≡ true → screen_of c name ≡ None → length c.aliases < 256
-    → in_section section.Aliases (draft_in o (Some n) c) name ≡ Ok (draft_in o (Some n) (with_alias c name n))
-unfolding in_section alias_line new_alias
-alias_read c n name o named new room =
-    let read = alias_again name (text_of name (length name)) (record { behind_name = []; text = sym (append-nil name); word = ((clean_name name named).some, name_takes name named); gap = refl; place = refl }) in
-    rw (no_header name named, read, named, new, lt-ltb (length c.aliases) 256 room) refl
 
 -- ---- those of one screen
 
@@ -100,6 +90,7 @@ passed n front a back e = filter-append (names_screen n) front (a ∷ back) ∙ 
 alias_step : (t : Bool) (c : Configuration) (n : ℕ) (done front : List Alias) (a : Alias) (back : List Alias) → names_screen n a ≡ t → IsSound c → c.aliases ≡ front ++ a ∷ back
     → Others c n done → length done + length (aliases_in c n) ≤ 256
     → ReadsTextBelow section.Aliases n (with_aliases c (done ++ filter (names_screen n) front)) (cond t ((two_tabs ++ a.name) ++ 10 ∷ []) []) (with_aliases c (done ++ filter (names_screen n) (front ++ a ∷ [])))
+unfolding in_section alias_line new_alias
 alias_step false c n done front a back t s e others room =
     let from = with_aliases c (done ++ filter (names_screen n) front) in
     subst (λ (k : List Alias). ReadsTextBelow section.Aliases n from [] (with_aliases c (done ++ k))) (sym (passed n front a [] t ∙ append-nil (filter (names_screen n) front))) (no_text_below section.Aliases n from)
@@ -117,8 +108,9 @@ alias_step true c n done front a back t s e others room =
     let this : (record { name = a.name; screen = n }) ≡ a = ap (λ (k : ℕ). let x : Alias = record { name = a.name; screen = k } in x) (sym number) in
     let more : (done ++ kept) ++ (record { name = a.name; screen = n }) ∷ [] ≡ done ++ filter (names_screen n) (front ++ a ∷ []) =
     append_assoc done kept ((record { name = a.name; screen = n }) ∷ []) ∙ ap (λ (x : Alias). done ++ (kept ++ x ∷ [])) this ∙ ap (λ (xs : List Alias). done ++ xs) (sym (taken n front a [] t)) in
+    let read = alias_again a.name (text_of a.name (length a.name)) (record { behind_name = []; text = sym (append-nil a.name); word = ((clean_name a.name named).some, name_takes a.name named); gap = refl; place = refl }) in
     line_below section.Aliases n from (with_aliases c (done ++ filter (names_screen n) (front ++ a ∷ []))) two_tabs a.name refl (clean_name a.name named) no_end
-    (λ o. alias_read from n a.name o named new small ∙ ap (λ (xs : List Alias). let r : Result Draft Fault = Ok (draft_in o (Some n) (with_aliases c xs)) in r) more)
+    (λ o. rw (no_header a.name named, read, named, new, lt-ltb (length (done ++ kept)) 256 small) (ap (λ (xs : List Alias). let r : Result Draft Fault = Ok (draft_in o (Some n) (with_aliases c xs)) in r) more))
 
 lines_again : (c : Configuration) (n : ℕ) (done front todo : List Alias) → IsSound c → c.aliases ≡ front ++ todo → Others c n done → length done + length (aliases_in c n) ≤ 256
     → ReadsTextBelow section.Aliases n (with_aliases c (done ++ filter (names_screen n) front)) (flat_map (alias_text n) todo) (with_aliases c (done ++ aliases_in c n))
