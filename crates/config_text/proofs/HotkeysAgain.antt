@@ -3,6 +3,7 @@ use Rattle.std.proofs.Common.{◌≡◌, ℕ, ◌<◌, true, List, [], ◌∷◌
 use Rattle.std.specs.List.{list_all, flat_map}
 use Rattle.std.proofs.lemmas.Bool.{and_parts, and_from, not_from_false, ltb-true}
 use Rattle.share_base.proofs.ListTests.{all_weaker, all_parts}
+use Rattle.text_lines.proofs.SpelledWords.{filled_some}
 use Rattle.hotkey_rules.specs.declared.action.Action.{Action}
 use Rattle.hotkey_rules.specs.declared.action.Action.TheVariants as action
 use Rattle.hotkey_rules.specs.declared.rule.Rule.{Rule}
@@ -30,7 +31,6 @@ use Rattle.config_text.proofs.KeysAgain.{bare, actions_are, room_again, rule_aga
 use Rattle.config_text.proofs.KnownAgain.{AreNamed, is_name_again, place_again, sound_names}
 use Rattle.config_text.proofs.NamesAgain.{name_passes}
 use Rattle.config_text.proofs.NamesClean.{clean_name}
-use Rattle.text_lines.proofs.SpelledWords.{filled_some}
 use Rattle.config_text.proofs.OptionsAgain.{for_all_again}
 use Rattle.config_text.proofs.Runs.{ReadsText, no_text, text_both, line_of_text}
 

@@ -8,9 +8,9 @@ use Rattle.std.proofs.lemmas.Bool.{or_from, false_from_ne_true, le-leb, lt-leb, 
 use Rattle.share_base.specs.declared.shape.Side.{Side}
 use Rattle.share_base.specs.declared.shape.Side.TheVariants.{Left, Right, Up, Down}
 use Rattle.screen_links.specs.declared.link.Link.{Link}
+use Rattle.screen_links.specs.declared.link.Landing.{Landing}
 use Rattle.screen_links.specs.Apart.{AreApart}
 use Rattle.screen_links.proofs.OneLink.{one_leaves}
-use Rattle.screen_links.specs.declared.link.Landing.{Landing}
 use Rattle.hotkey_rules.proofs.FirstFound.{found_listed}
 use Rattle.config_text.specs.Configurations.{Configuration}
 use Rattle.config_text.specs.Judging.{overlaps}
