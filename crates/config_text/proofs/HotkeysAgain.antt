@@ -1,75 +1,52 @@
 -- Hotkeys that are printed are read again.
-use Rattle.std.proofs.Common.{◌≡◌, ℕ, ◌<◌, true, false, ◌&&◌, ◌==◌, List, [], ◌∷◌, ◌++◌, length, map, Option, Some, Ok, refl, ap, sym, subst, ◌∙◌, append_assoc, append-nil, inl, inr, arith}
-use Rattle.std.specs.Prelude.{codes, nat_le}
-use Rattle.std.specs.List.{list_all, list_any, flat_map}
-use Rattle.std.specs.Str.{bytes_eq}
-use Rattle.std.proofs.lemmas.Bool.{and_parts, and_from, and_right, both_ways, false_from_ne_true, not_from_true, not_from_false, or_cases, eqb-true, leb-true, ltb-true}
-use Rattle.std.proofs.lemmas.Slice.Eq.{bytes_eq-Decides}
+use Rattle.std.proofs.Common.{◌≡◌, ℕ, ◌<◌, true, List, [], ◌∷◌, ◌++◌, length, map, Ok, refl, ap, sym, subst, ◌∙◌, append_assoc, append-nil}
+use Rattle.std.specs.List.{list_all, flat_map}
+use Rattle.std.proofs.lemmas.Bool.{and_parts, and_from, not_from_false, ltb-true}
 use Rattle.share_base.proofs.ListTests.{all_weaker, all_parts}
-use Rattle.share_base.proofs.NameBytes.{is_name_byte, name_bytes}
-use Rattle.text_lines.proofs.CleanWords.{IsClean}
+use Rattle.text_lines.proofs.SpelledWords.{filled_some}
 use Rattle.hotkey_rules.specs.declared.action.Action.{Action}
 use Rattle.hotkey_rules.specs.declared.action.Action.TheVariants as action
 use Rattle.hotkey_rules.specs.declared.rule.Rule.{Rule}
-use Rattle.hotkey_text.specs.Again.{is_argument_byte, is_screen_word, has_screen_word, is_spelled, words_of, HasWordsOf, HaveWordsOf, texts_of, ReadsAs}
+use Rattle.hotkey_text.specs.Again.{is_argument_byte, is_screen_word, has_screen_word, is_spelled, words_of, HasWordsOf, HaveWordsOf, texts_of}
 use Rattle.hotkey_text.specs.Printed.{trigger_text, hotkey_text}
 use Rattle.hotkey_text.specs.Shapes.{ActionForm}
 use Rattle.hotkey_text.specs.Spelled.{is_trigger, is_action}
-use Rattle.hotkey_text.proofs.ArgumentBytes.{each_byte}
 use Rattle.hotkey_text.proofs.LineBytes.{line_clean, line_equals}
 use Rattle.hotkey_text.proofs.LinesAgain.{line_again}
 use Rattle.screen_links.specs.declared.link.Link.{Link}
 use Rattle.option_table.specs.Printed.{option_lines}
 use Rattle.option_table.specs.Settings.{Values, none_set}
 use Rattle.config_text.specs.declared.screens.Alias.{Alias}
-use Rattle.config_text.specs.declared.sections.Opened.{Opened}
 use Rattle.config_text.specs.declared.sections.Section.TheVariants as section
 use Rattle.config_text.specs.ActionKeys.{actions_in}
 use Rattle.config_text.specs.Configurations.{Configuration, screen_of}
 use Rattle.config_text.specs.Hotkeys.{screen_named, meant, action_of, actions_of, new_hotkey}
 use Rattle.config_text.specs.Normal.{one_tab, screen_in, action_of as action_printed, hotkey_of, hotkeys_text, options_text}
-use Rattle.config_text.specs.Sections.{is_header, in_section, hotkey_line}
+use Rattle.config_text.specs.Sections.{in_section, hotkey_line}
 use Rattle.config_text.specs.SoundHotkeys.{action_below, is_action_among, AreHotkeys}
 use Rattle.config_text.specs.Sound.{IsSound}
 use Rattle.config_text.specs.Values.{name_of}
+use Rattle.config_text.proofs.CleanLines.{equals_no_end, equals_no_header}
 use Rattle.config_text.proofs.KeysAgain.{bare, actions_are, room_again, rule_again}
 use Rattle.config_text.proofs.KnownAgain.{AreNamed, is_name_again, place_again, sound_names}
-use Rattle.config_text.proofs.NamesAgain.{name_some, name_byte_allowed}
+use Rattle.config_text.proofs.NamesAgain.{name_passes}
+use Rattle.config_text.proofs.NamesClean.{clean_name}
 use Rattle.config_text.proofs.OptionsAgain.{for_all_again}
-use Rattle.config_text.proofs.Runs.{draft_in, ReadsText, no_text, text_both, line_of_text}
+use Rattle.config_text.proofs.Runs.{ReadsText, no_text, text_both, line_of_text}
 
 -- ---- the names of screens
-
-name_below : (b : ℕ) → is_name_byte b ≡ true → b < 127
-name_below b h =
-    elim (or_cases (b == 9) (nat_le 32 b && nat_le b 126) (name_byte_allowed b h)) [
-      | inl e ↦ omega (arith, eqb-true b 9 e)
-      | inr e ↦ omega (arith, leb-true b 126 (and_parts (nat_le 32 b) (nat_le b 126) e).1)
-    ]
 
 screen_word : (c : Configuration) (n : ℕ) → AreNamed c.screens → n < length c.screens → is_screen_word (name_of c n) ≡ true
 screen_word c n a lt =
     let name = is_name_again c n a lt in
-    and_from _ _ (not_from_false _ (name_some (name_of c n) name))
-    (all_weaker is_name_byte is_argument_byte (each_byte is_name_byte is_argument_byte name_below refl) (name_of c n) (name_bytes (name_of c n) name))
-
-screen_found : (c : Configuration) (n : ℕ) → AreNamed c.screens → n < length c.screens → screen_of c (name_of c n) ≡ Some n
-unfolding screen_of
-screen_found c n a lt = rw (place_again c.screens n a.others lt) refl
+    and_from _ _ (not_from_false _ (filled_some (name_of c n) (clean_name (name_of c n) name).some)) (name_passes is_argument_byte refl (name_of c n) name)
 
 -- ---- actions
 
 -- a text can spell the actions of a configuration
 has_word : (c : Configuration) (a : Action) → AreNamed c.screens → action_below (length c.screens) a ≡ true → has_screen_word a (screen_in c a) ≡ true
-has_word c (action.KeyStroke id mods button) n h = refl
-has_word c (action.KeyPress id mods button) n h = refl
-has_word c (action.KeyRelease id mods button) n h = refl
-has_word c (action.MouseClick mods b) n h = refl
-has_word c (action.MousePress mods b) n h = refl
-has_word c (action.MouseRelease mods b) n h = refl
-has_word c (action.Lock mode) n h = refl
 has_word c (action.SwitchTo screen) n h = screen_word c screen.0 n (ltb-true screen.0 (length c.screens) h)
-has_word c (action.SwitchToward side) n h = refl
+has_word c a n h = refl
 
 spelled : (c : Configuration) → AreNamed c.screens → (a : Action) → is_action_among (length c.screens) a ≡ true → is_spelled a (screen_in c a) ≡ true
 spelled c n a h =
@@ -78,16 +55,9 @@ spelled c n a h =
 
 -- its words mean it, but for its key's button
 meant_again : (c : Configuration) (a : Action) (left : ℕ) → AreNamed c.screens → action_below (length c.screens) a ≡ true → meant c (words_of a (screen_in c a) left) ≡ Ok (bare a)
-unfolding screen_named
-meant_again c (action.KeyStroke id mods button) left n h = refl
-meant_again c (action.KeyPress id mods button) left n h = refl
-meant_again c (action.KeyRelease id mods button) left n h = refl
-meant_again c (action.MouseClick mods b) left n h = refl
-meant_again c (action.MousePress mods b) left n h = refl
-meant_again c (action.MouseRelease mods b) left n h = refl
-meant_again c (action.Lock mode) left n h = refl
-meant_again c (action.SwitchTo screen) left n h = rw (screen_found c screen.0 n (ltb-true screen.0 (length c.screens) h)) refl
-meant_again c (action.SwitchToward side) left n h = refl
+unfolding screen_named screen_of
+meant_again c (action.SwitchTo screen) left n h = rw (place_again c.screens screen.0 n.others (ltb-true screen.0 (length c.screens) h)) refl
+meant_again c a left n h = refl
 
 action_again : (c : Configuration) (a : Action) (form : ActionForm) → AreNamed c.screens → is_action_among (length c.screens) a ≡ true → HasWordsOf a (screen_in c a) form
     → action_of c form ≡ Ok (bare a)
@@ -98,11 +68,10 @@ actions_again : (c : Configuration) (actions : List Action) (forms : List Action
     → HaveWordsOf (screen_in c) actions forms → actions_of c forms ≡ Ok (map bare actions)
 unfolding actions_of
 actions_again c [] [] n h w = refl
-actions_again c [] (form ∷ forms) n h w = absurd w
-actions_again c (a ∷ actions) [] n h w = absurd w
 actions_again c (a ∷ actions) (form ∷ forms) n h w =
     let parts = and_parts (is_action_among (length c.screens) a) (list_all (is_action_among (length c.screens)) actions) h in
     rw (action_again c a form n parts.0 w.0, actions_again c actions forms n parts.1 w.1) refl
+actions_again c actions forms n h w = absurd w
 
 -- ---- one hotkey behind those before it
 
@@ -113,84 +82,34 @@ with_hotkeys c hotkeys = record c { hotkeys = hotkeys }
 abbrev with_parts : Configuration → List Alias → List Link → Values → List Rule → Configuration
 with_parts c aliases links settings hotkeys = record { screens = c.screens; aliases = aliases; links = links; settings = settings; hotkeys = hotkeys }
 
--- what is known of a rule among rules
-record IsAmong (c : Configuration) (front : List Rule) (rule : Rule) (more : List Rule) : Type 0 where
-  named : AreNamed c.screens
-  hotkeys : AreHotkeys (length c.screens) (front ++ rule ∷ more)
-  trigger : is_trigger rule.trigger ≡ true
-  press : list_all (is_action_among (length c.screens)) rule.press ≡ true
-  release : list_all (is_action_among (length c.screens)) rule.release ≡ true
-
-is_among : (c : Configuration) (front : List Rule) (rule : Rule) (more : List Rule) → AreNamed c.screens → AreHotkeys (length c.screens) (front ++ rule ∷ more) → IsAmong c front rule more
-is_among c front rule more n s =
+hotkey_again : (c : Configuration) (front : List Rule) (rule : Rule) (more : List Rule) → AreNamed c.screens → AreHotkeys (length c.screens) (front ++ rule ∷ more)
+    → ReadsText section.Options (with_hotkeys c front) (hotkey_of c rule) (with_hotkeys c (front ++ rule ∷ []))
+unfolding hotkey_of action_printed in_section hotkey_line new_hotkey
+hotkey_again c front rule more n s =
     let sorts = is_action_among (length c.screens) in
     let triggers = all_parts (λ (r : Rule). is_trigger r.trigger) front (rule ∷ more) s.triggers in
+    let trigger = (and_parts (is_trigger rule.trigger) (list_all (λ (r : Rule). is_trigger r.trigger) more) triggers.1).0 in
     let actions : list_all sorts (actions_in front ++ ((rule.press ++ rule.release) ++ actions_in more)) ≡ true = sym (ap (list_all sorts) (actions_are front rule more)) ∙ s.actions in
     let behind = all_parts sorts (actions_in front) ((rule.press ++ rule.release) ++ actions_in more) actions in
     let own = all_parts sorts (rule.press ++ rule.release) (actions_in more) behind.1 in
     let both = all_parts sorts rule.press rule.release own.0 in
-    record {
-      named = n;
-      hotkeys = s;
-      trigger = (and_parts (is_trigger rule.trigger) (list_all (λ (r : Rule). is_trigger r.trigger) more) triggers.1).0;
-      press = both.0;
-      release = both.1;
-    }
-
-abbrev words_text : Configuration → Rule → List ℕ
-words_text c rule = hotkey_text (trigger_text rule.trigger) (texts_of (screen_in c) rule.press) (texts_of (screen_in c) rule.release)
-
-read_as : (c : Configuration) (front : List Rule) (rule : Rule) (more : List Rule) → IsAmong c front rule more → ReadsAs (words_text c rule) (screen_in c) rule.trigger rule.press rule.release
-read_as c front rule more k =
-    let each = spelled c k.named in
-    line_again rule.trigger (screen_in c) rule.press rule.release k.trigger
-    (all_weaker (is_action_among (length c.screens)) (λ a. is_spelled a (screen_in c a)) each rule.press k.press)
-    (all_weaker (is_action_among (length c.screens)) (λ a. is_spelled a (screen_in c a)) each rule.release k.release)
-
-new_again : (c : Configuration) (front : List Rule) (rule : Rule) (more : List Rule) (whole : ℕ) → IsAmong c front rule more
-    → (r : ReadsAs (words_text c rule) (screen_in c) rule.trigger rule.press rule.release) → new_hotkey whole (with_hotkeys c front) r.line ≡ Ok (with_hotkeys c (front ++ rule ∷ []))
-unfolding new_hotkey
-new_again c front rule more whole k r =
-    let d = with_hotkeys c front in
-    rw (
+    let press = all_weaker sorts (λ a. is_spelled a (screen_in c a)) (spelled c n) rule.press both.0 in
+    let release = all_weaker sorts (λ a. is_spelled a (screen_in c a)) (spelled c n) rule.release both.1 in
+    let words = hotkey_text (trigger_text rule.trigger) (texts_of (screen_in c) rule.press) (texts_of (screen_in c) rule.release) in
+    let equals = line_equals (trigger_text rule.trigger) (texts_of (screen_in c) rule.press) (texts_of (screen_in c) rule.release) in
+    let r = line_again rule.trigger (screen_in c) rule.press rule.release trigger press release in
+    let from = with_hotkeys c front in
+    line_of_text section.Options from (with_hotkeys c (front ++ rule ∷ [])) one_tab words refl (line_clean rule.trigger (screen_in c) rule.press rule.release trigger press release) (equals_no_end words equals)
+    (λ opened header. rw (
+      equals_no_header words equals,
+      r.hotkey,
+      r.read,
       r.trigger,
-      actions_again d rule.press r.line.press k.named k.press r.press,
-      actions_again d rule.release r.line.release k.named k.release r.release,
-      room_again (length c.screens) front rule more k.hotkeys,
-      rule_again (length c.screens) front rule more k.hotkeys,
-    ) refl
-
--- ---- its line
-
-no_header : (c : Configuration) (rule : Rule) → is_header (words_text c rule) ≡ false
-unfolding is_header
-no_header c rule = and_right _ _ (not_from_true _ (line_equals (trigger_text rule.trigger) (texts_of (screen_in c) rule.press) (texts_of (screen_in c) rule.release)))
-
-no_end : (c : Configuration) (rule : Rule) → bytes_eq (words_text c rule) (codes "end") ≡ false
-no_end c rule = false_from_ne_true _ (λ e.
-    let same : words_text c rule ≡ codes "end" = (bytes_eq-Decides (words_text c rule) (codes "end")).0 e in
-    both_ways _ (ap (list_any (λ b. b == 61)) same) (line_equals (trigger_text rule.trigger) (texts_of (screen_in c) rule.press) (texts_of (screen_in c) rule.release)))
-
-line_read : (c : Configuration) (front : List Rule) (rule : Rule) (more : List Rule) → IsAmong c front rule more → (opened : Opened) (header : Option ℕ)
-    → in_section section.Options (draft_in opened header (with_hotkeys c front)) (words_text c rule) ≡ Ok (draft_in opened header (with_hotkeys c (front ++ rule ∷ [])))
-unfolding in_section hotkey_line
-line_read c front rule more k opened header =
-    let r = read_as c front rule more k in
-    rw (no_header c rule, r.hotkey, r.read, new_again c front rule more (length (words_text c rule)) k r) refl
-
-line_clean_again : (c : Configuration) (front : List Rule) (rule : Rule) (more : List Rule) → IsAmong c front rule more → IsClean (words_text c rule)
-line_clean_again c front rule more k =
-    let each = spelled c k.named in
-    line_clean rule.trigger (screen_in c) rule.press rule.release k.trigger
-    (all_weaker (is_action_among (length c.screens)) (λ a. is_spelled a (screen_in c a)) each rule.press k.press)
-    (all_weaker (is_action_among (length c.screens)) (λ a. is_spelled a (screen_in c a)) each rule.release k.release)
-
-hotkey_again : (c : Configuration) (front : List Rule) (rule : Rule) (more : List Rule) → IsAmong c front rule more
-    → ReadsText section.Options (with_hotkeys c front) (hotkey_of c rule) (with_hotkeys c (front ++ rule ∷ []))
-unfolding hotkey_of action_printed
-hotkey_again c front rule more k =
-    line_of_text section.Options (with_hotkeys c front) (with_hotkeys c (front ++ rule ∷ [])) one_tab (words_text c rule) refl
-    (line_clean_again c front rule more k) (no_end c rule) (line_read c front rule more k)
+      actions_again from rule.press r.line.press n both.0 r.press,
+      actions_again from rule.release r.line.release n both.1 r.release,
+      room_again (length c.screens) front rule more s,
+      rule_again (length c.screens) front rule more s,
+    ) refl)
 
 -- ---- all of them
 
@@ -199,21 +118,17 @@ hotkeys_from : (c : Configuration) (front rules : List Rule) → AreNamed c.scre
 hotkeys_from c front [] n s = subst (λ (rules : List Rule). ReadsText section.Options (with_hotkeys c front) [] (with_hotkeys c rules)) (sym (append-nil front)) (no_text section.Options (with_hotkeys c front))
 hotkeys_from c front (rule ∷ rules) n s =
     let moved : (front ++ rule ∷ []) ++ rules ≡ front ++ rule ∷ rules = append_assoc front (rule ∷ []) rules in
-    let first = hotkey_again c front rule rules (is_among c front rule rules n s) in
+    let first = hotkey_again c front rule rules n s in
     let rest = hotkeys_from c (front ++ rule ∷ []) rules n (subst (AreHotkeys (length c.screens)) (sym moved) s) in
     text_both section.Options (with_hotkeys c front) (with_hotkeys c (front ++ rule ∷ [])) (with_hotkeys c (front ++ rule ∷ rules)) (hotkey_of c rule) (flat_map (hotkey_of c) rules) first
     (subst (λ (all : List Rule). ReadsText section.Options (with_hotkeys c (front ++ rule ∷ [])) (flat_map (hotkey_of c) rules) (with_hotkeys c all)) moved rest)
 
--- the hotkeys of a configuration are read into one that has the same screens, and no hotkeys yet
-pub hotkeys_again : (c : Configuration) (aliases : List Alias) (links : List Link) (settings : Values) → IsSound c
-    → ReadsText section.Options (with_parts c aliases links settings []) (hotkeys_text c) (with_parts c aliases links settings c.hotkeys)
-unfolding hotkey_of action_printed
-hotkeys_again c aliases links settings s = hotkeys_from (with_parts c aliases links settings []) [] c.hotkeys (sound_names c s) s.hotkeys
-
 -- the options for all screens, and the hotkeys behind them
 pub options_again : (c : Configuration) (aliases : List Alias) (links : List Link) → IsSound c
     → ReadsText section.Options (with_parts c aliases links none_set []) (options_text c) (with_parts c aliases links c.settings c.hotkeys)
+unfolding hotkey_of action_printed
 options_again c aliases links s =
     text_both section.Options (with_parts c aliases links none_set []) (with_parts c aliases links c.settings []) (with_parts c aliases links c.settings c.hotkeys)
     (option_lines one_tab c.settings) (hotkeys_text c)
-    (for_all_again (with_parts c aliases links none_set []) c.settings s.for_all refl) (hotkeys_again c aliases links c.settings s)
+    (for_all_again (with_parts c aliases links none_set []) c.settings s.for_all refl)
+    (hotkeys_from (with_parts c aliases links c.settings []) [] c.hotkeys (sound_names c s) s.hotkeys)

@@ -19,7 +19,6 @@ pub mod KeysAgain
 pub mod KnownAgain
 pub mod LineNumbers
 pub mod LineRuns
-pub mod LinkWords
 pub mod LinksAgain
 pub mod NameLengths
 pub mod NamesAgain
@@ -33,7 +32,7 @@ pub mod OptionsAgain
 pub mod Overlapping
 pub mod Picking
 pub mod PrintedLengths
-pub mod RangesAgain
+pub mod PrintedLinks
 pub mod RisingLinks
 pub mod Runs
 pub mod ScreensAgain

@@ -1,9 +1,10 @@
 -- A link overlaps another, as a test and as a fact.
-use Rattle.std.proofs.Common.{◌≡◌, ℕ, zero, suc, ◌<◌, Bool, true, false, ◌&&◌, ◌||◌, ◌==◌, List, [], ◌∷◌, length, get_or, min, max, refl, ap, sym, ◌∙◌, nat_lt, arith}
+use Rattle.std.proofs.Common.{◌≡◌, ℕ, ◌<◌, true, false, ◌&&◌, ◌==◌, List, min, max, refl, ap, sym, ◌∙◌, nat_lt, arith}
 use Rattle.std.specs.List.{list_any}
 use Rattle.std.proofs.lemmas.Bool.{lt-ltb, eqb-true, false_from_ne_true, and_parts}
 use Rattle.std.proofs.Common.{eq-eqb}
 use borrow.Author.Tests.{ltb-true}
+use Rattle.std.proofs.lemmas.List.Folds.{Any-from_list_any, list_any-from_Any}
 use Rattle.share_base.specs.declared.shape.Side.{Side}
 use Rattle.share_base.specs.declared.shape.Side.TheVariants.{Left, Right, Up, Down}
 use Rattle.share_base.specs.declared.numbers.ScreenNo.{ScreenNo}
@@ -11,64 +12,26 @@ use Rattle.screen_links.specs.declared.link.Link.{Link}
 use Rattle.screen_links.specs.Adding.{Blocks, Overlaps, IsFree}
 use Rattle.config_text.specs.Judging.{overlaps, same_side}
 
-or_right : (a b : Bool) → b ≡ true → (a || b) ≡ true
-or_right true b e = refl
-or_right false b e = e
-
-pub any_there : {A : Type 0} (p : A → Bool) (xs : List A) (k : ℕ) (x : A) → k < length xs → get_or xs k x ≡ x → p x ≡ true → list_any p xs ≡ true
-any_there p [] k x h e t = absurd (omega arith)
-any_there p (y ∷ ys) zero x h e t = let first : p y ≡ true = ap p e ∙ t in rw first refl
-any_there p (y ∷ ys) (suc k) x h e t = let rest : list_any p ys ≡ true = any_there p ys k x (omega arith) e t in or_right (p y) (list_any p ys) rest
-
-abbrev Found : {A : Type 0} → (A → Bool) → List A → Type 0
-Found {A} p xs = (k : ℕ) × (x : A) × (k < length xs) × (get_or xs k x ≡ x) × (p x ≡ true)
-
-later : {A : Type 0} (p : A → Bool) (y : A) (ys : List A) → Found p ys → Found p (y ∷ ys)
-later p y ys f = (suc f.0, f.1, omega (arith, f.2), f.3, f.4)
-
-found_by : {A : Type 0} (t : Bool) (p : A → Bool) (y : A) (ys : List A) → p y ≡ t → (list_any p ys ≡ true → Found p ys) → (t || list_any p ys) ≡ true → Found p (y ∷ ys)
-found_by true p y ys e rest h = (0, y, omega arith, refl, e)
-found_by false p y ys e rest h = later p y ys (rest h)
-
-pub any_found : {A : Type 0} (p : A → Bool) (xs : List A) → list_any p xs ≡ true → Found p xs
-any_found p [] h = absurd cc
-any_found p (y ∷ ys) h = found_by (p y) p y ys refl (any_found p ys) h
-
 pub same_side_refl : (s : Side) → same_side s s ≡ true
 same_side_refl Left = refl
-same_side_refl Right = refl
-same_side_refl Up = refl
-same_side_refl Down = refl
+same_side_refl s = refl
 
 pub one_side : (s t : Side) → same_side s t ≡ true → t ≡ s
 one_side Left Left e = refl
-one_side Left Right e = absurd cc
-one_side Left Up e = absurd cc
-one_side Left Down e = absurd cc
-one_side Right Left e = absurd cc
 one_side Right Right e = refl
-one_side Right Up e = absurd cc
-one_side Right Down e = absurd cc
-one_side Up Left e = absurd cc
-one_side Up Right e = absurd cc
 one_side Up Up e = refl
-one_side Up Down e = absurd cc
-one_side Down Left e = absurd cc
-one_side Down Right e = absurd cc
-one_side Down Up e = absurd cc
 one_side Down Down e = refl
-
-three : (a b c : Bool) → a ≡ true → b ≡ true → c ≡ true → (a && b && c) ≡ true
-three a b c h k m = rw (h, k, m) refl
+one_side s t e = absurd cc
 
 -- the fact that a link blocks another's place is the test
 pub blocks_overlaps : (l k : Link) → Blocks k l.from l.side l.range → overlaps l k ≡ true
 unfolding overlaps
 blocks_overlaps l k b =
-    three (l.from.0 == k.from.0) (same_side l.side k.side) (nat_lt (max l.range.a k.range.a) (min l.range.b k.range.b))
-    (eq-eqb l.from.0 k.from.0 (ap (λ (n : ScreenNo). n.0) (sym b.same_screen)))
-    (ap (same_side l.side) b.same_side ∙ same_side_refl l.side)
-    (lt-ltb _ _ (omega (arith, b.shared.1.0, b.shared.1.1, b.shared.2.0, b.shared.2.1)))
+    rw (
+      eq-eqb l.from.0 k.from.0 (ap (λ (n : ScreenNo). n.0) (sym b.same_screen)),
+      ap (same_side l.side) b.same_side ∙ same_side_refl l.side,
+      lt-ltb (max l.range.a k.range.a) (min l.range.b k.range.b) (omega (arith, b.shared.1.0, b.shared.1.1, b.shared.2.0, b.shared.2.1)),
+    ) refl
 
 pub overlaps_blocks : (l k : Link) → overlaps l k ≡ true → Blocks k l.from l.side l.range
 unfolding overlaps
@@ -84,8 +47,8 @@ overlaps_blocks l k e =
     }
 
 pub any_overlaps : (l : Link) (links : List Link) → Overlaps links l.from l.side l.range → list_any (overlaps l) links ≡ true
-any_overlaps l links o = any_there (overlaps l) links o.0 o.1 o.2 o.3 (blocks_overlaps l o.1 o.4)
+any_overlaps l links o = list_any-from_Any (overlaps l) links (o.0, o.1, o.2, o.3, blocks_overlaps l o.1 o.4)
 
 pub none_overlaps : (l : Link) (links : List Link) → IsFree links l → list_any (overlaps l) links ≡ false
 none_overlaps l links free =
-    false_from_ne_true _ (λ e. let f = any_found (overlaps l) links e in free (f.0, f.1, f.2, f.3, overlaps_blocks l f.1 f.4))
+    false_from_ne_true _ (λ e. let f = Any-from_list_any (overlaps l) links e in free (f.0, f.1, f.2, f.3, overlaps_blocks l f.1 f.4))

@@ -1,8 +1,8 @@
 -- Elements that are picked from a list by a key, and found again in the list of those picked by all keys.
-use Rattle.std.proofs.Common.{◌≡◌, ℕ, zero, suc, ◌+◌, ◌<◌, ◌≤◌, Bool, true, false, cond, ◌==◌, ◌||◌, List, [], ◌∷◌, ◌++◌, map, Option, Some, None, refl, ap, ◌∙◌, arith, inl, inr}
+use Rattle.std.proofs.Common.{◌≡◌, ℕ, zero, suc, ◌+◌, ◌<◌, ◌≤◌, Bool, true, false, ◌==◌, List, [], ◌∷◌, ◌++◌, map, Option, Some, None, refl, ap, ◌∙◌, arith, inl, inr}
 use Rattle.std.specs.Prelude.{filter}
 use Rattle.std.specs.List.{flat_map, filter_map, cons_option, find, list_any, range_with_len}
-use Rattle.std.specs.Option.{option_or, option_to_list}
+use Rattle.std.specs.Option.{option_to_list}
 use Rattle.std.proofs.lemmas.Bool.{or_right}
 use Rattle.std.proofs.lemmas.Bool.Decides.{eqb_tells}
 use Rattle.std.proofs.lemmas.List.Folds.{find-append}
@@ -32,69 +32,40 @@ any_in_range n from (suc len) above below =
 
 -- ---- filters
 
-inside_by : {A : Type 0} (t : Bool) (p q : A → Bool) (x : A) (xs : List A) → q x ≡ t → (q x ≡ true → p x ≡ true) → filter p (filter q xs) ≡ filter q xs
-    → filter p (cond t (x ∷ filter q xs) (filter q xs)) ≡ cond t (x ∷ filter q xs) (filter q xs)
-inside_by true p q x xs e w rest = rw (w e) (ap (λ t. x ∷ t) rest)
-inside_by false p q x xs e w rest = rest
-
 pub filter_inside : {A : Type 0} (p q : A → Bool) → ((x : A) → q x ≡ true → p x ≡ true) → (xs : List A) → filter p (filter q xs) ≡ filter q xs
 filter_inside p q w [] = refl
-filter_inside p q w (x ∷ xs) = inside_by (q x) p q x xs refl (w x) (filter_inside p q w xs)
-
-outside_by : {A : Type 0} (t : Bool) (p q : A → Bool) (x : A) (xs : List A) → q x ≡ t → (q x ≡ true → p x ≡ false) → filter p (filter q xs) ≡ [] → filter p (cond t (x ∷ filter q xs) (filter q xs)) ≡ []
-outside_by true p q x xs e w rest = rw (w e) rest
-outside_by false p q x xs e w rest = rest
+filter_inside p q w (x ∷ xs) = grind (arith, w x, filter_inside p q w xs)
 
 pub filter_outside : {A : Type 0} (p q : A → Bool) → ((x : A) → q x ≡ true → p x ≡ false) → (xs : List A) → filter p (filter q xs) ≡ []
 filter_outside p q w [] = refl
-filter_outside p q w (x ∷ xs) = outside_by (q x) p q x xs refl (w x) (filter_outside p q w xs)
+filter_outside p q w (x ∷ xs) = grind (arith, w x, filter_outside p q w xs)
 
 -- ---- the first that passes
-
-found_by : {A : Type 0} (t : Bool) (p q : A → Bool) (x : A) (xs : List A) → q x ≡ t → (q x ≡ true → p x ≡ false) → find p (option_to_list (find q xs)) ≡ None
-    → find p (option_to_list (cond t (Some x) (find q xs))) ≡ None
-found_by true p q x xs e w rest = rw (w e) refl
-found_by false p q x xs e w rest = rest
 
 -- what another test found doesn't pass
 pub find_other : {A : Type 0} (p q : A → Bool) → ((x : A) → q x ≡ true → p x ≡ false) → (xs : List A) → find p (option_to_list (find q xs)) ≡ None
 find_other p q w [] = refl
-find_other p q w (x ∷ xs) = found_by (q x) p q x xs refl (w x) (find_other p q w xs)
-
-again_by : {A : Type 0} (t : Bool) (p : A → Bool) (x : A) (xs : List A) → p x ≡ t → find p (option_to_list (find p xs)) ≡ find p xs
-    → find p (option_to_list (cond t (Some x) (find p xs))) ≡ cond t (Some x) (find p xs)
-again_by true p x xs e rest = rw e refl
-again_by false p x xs e rest = rest
+find_other p q w (x ∷ xs) = grind (arith, w x, find_other p q w xs)
 
 -- what a test found is found again
 pub find_again : {A : Type 0} (p : A → Bool) (xs : List A) → find p (option_to_list (find p xs)) ≡ find p xs
 find_again p [] = refl
-find_again p (x ∷ xs) = again_by (p x) p x xs refl (find_again p xs)
+find_again p (x ∷ xs) = grind (arith, find_again p xs)
 
 pub find_nowhere : {K A : Type 0} (p : A → Bool) (g : K → List A) → ((k : K) → find p (g k) ≡ None) → (keys : List K) → find p (flat_map g keys) ≡ None
 find_nowhere p g h [] = refl
 find_nowhere p g h (k ∷ ks) = find-append p (g k) (flat_map g ks) ∙ rw (h k) (find_nowhere p g h ks)
 
-by_key : {K A : Type 0} (t : Bool) (p : A → Bool) (g : K → List A) (own : K → Bool) (x : A) (k : K) (ks : List K) → own k ≡ t
-    → (own k ≡ true → find p (g k) ≡ Some x) → (own k ≡ false → find p (g k) ≡ None) → (t || list_any own ks) ≡ true
-    → (list_any own ks ≡ true → find p (flat_map g ks) ≡ Some x) → option_or (find p (g k)) (find p (flat_map g ks)) ≡ Some x
-by_key true p g own x k ks e here other some rest = rw (here e) refl
-by_key false p g own x k ks e here other some rest = rw (other e) (rest some)
-
 some_among : {K A : Type 0} (p : A → Bool) (g : K → List A) (own : K → Bool) (x : A) → ((k : K) → own k ≡ true → find p (g k) ≡ Some x) → ((k : K) → own k ≡ false → find p (g k) ≡ None)
     → (keys : List K) → list_any own keys ≡ true → find p (flat_map g keys) ≡ Some x
 some_among p g own x here other [] some = absurd cc
 some_among p g own x here other (k ∷ ks) some =
-    find-append p (g k) (flat_map g ks) ∙ by_key (own k) p g own x k ks refl (here k) (other k) some (some_among p g own x here other ks)
-
-none_by : {K A : Type 0} (t : Bool) (p : A → Bool) (g : K → List A) (own : K → Bool) (k : K) → own k ≡ t → (own k ≡ true → find p (g k) ≡ None) → (own k ≡ false → find p (g k) ≡ None) → find p (g k) ≡ None
-none_by true p g own k e here other = here e
-none_by false p g own k e here other = other e
+    find-append p (g k) (flat_map g ks) ∙ grind (arith, here k, other k, some, some_among p g own x here other ks)
 
 -- among lists by key, what the list of its own key has
 pub find_among : {K A : Type 0} (p : A → Bool) (g : K → List A) (own : K → Bool) (r : Option A) → ((k : K) → own k ≡ true → find p (g k) ≡ r) → ((k : K) → own k ≡ false → find p (g k) ≡ None)
     → (keys : List K) → list_any own keys ≡ true → find p (flat_map g keys) ≡ r
-find_among p g own None here other keys some = find_nowhere p g (λ k. none_by (own k) p g own k refl (here k) (other k)) keys
+find_among p g own None here other keys some = find_nowhere p g (λ k. grind (arith, here k, other k)) keys
 find_among p g own (Some x) here other keys some = some_among p g own x here other keys some
 
 kept_by : {A : Type 0} (o : Option A) (xs : List A) → cons_option o xs ≡ option_to_list o ++ xs

@@ -89,9 +89,6 @@ no_close xs o c a m s n k q b rest u e t d =
 
 -- ---- where it stops
 
-flat_one : (a b xs : List ℕ) → (40 ∷ (a ++ b)) ++ xs ≡ 40 ∷ (a ++ (b ++ xs))
-flat_one a b xs = simp append_assoc
-
 flat_two : (a b c xs : List ℕ) → (40 ∷ (a ++ (b ++ c))) ++ xs ≡ 40 ∷ (a ++ (b ++ (c ++ xs)))
 flat_two a b c xs = simp append_assoc
 

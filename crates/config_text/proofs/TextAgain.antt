@@ -1,8 +1,7 @@
 -- The normal form of a sound configuration is read again, with the same value.
-use Rattle.std.proofs.Common.{◌≡◌, [], ◌++◌, Ok, refl}
+use Rattle.std.proofs.Common.{◌≡◌, [], ◌++◌, Ok}
 use Rattle.std.specs.Prelude.{codes}
 use Rattle.std.specs.List.{flat_map}
-use Rattle.option_table.specs.Settings.{none_set}
 use Rattle.config_text.specs.declared.sections.Section.TheVariants as section
 use Rattle.config_text.specs.Configurations.{Configuration, nothing}
 use Rattle.config_text.specs.Lines.{reading}
@@ -35,8 +34,8 @@ text_again c s =
     let aliases = section_of (codes "aliases") (aliases_text c) in
     let links = section_of (codes "links") (links_text c) in
     let options = section_of (codes "options") (options_text c) in
-    let to_aliases = whole_both nothing one two screens aliases (screens_read c s) (section_again section.Aliases one two (aliases_text c) (aliases_again c [] none_set s)) in
-    let to_links = whole_both nothing two three (screens ++ aliases) links to_aliases (section_again section.Links two three (links_text c) (links_again c two s refl refl)) in
+    let to_aliases = whole_both nothing one two screens aliases (screens_read c s) (section_again section.Aliases one two (aliases_text c) (aliases_again c s)) in
+    let to_links = whole_both nothing two three (screens ++ aliases) links to_aliases (section_again section.Links two three (links_text c) (links_again c two.aliases s)) in
     let to_options = whole_both nothing three (in_order c) ((screens ++ aliases) ++ links) options to_links (section_again section.Options three (in_order c) (options_text c) (options_again c two.aliases three.links s)) in
     whole_read (((screens ++ aliases) ++ links) ++ options) (in_order c) to_options
 

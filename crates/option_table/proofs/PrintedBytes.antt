@@ -1,11 +1,10 @@
 -- The bytes of a printed option.
-use Rattle.std.proofs.Common.{◌≡◌, ℕ, ◌+◌, ◌-◌, ◌^◌, ◌<◌, Bool, true, false, not, ◌&&◌, nat_lt, List, length, get_or, refl, arith}
+use Rattle.std.proofs.Common.{◌≡◌, ℕ, ◌+◌, ◌-◌, ◌^◌, ◌<◌, Bool, true, not, ◌&&◌, nat_lt, List, length, get_or, refl, arith}
 use Rattle.std.specs.List.{list_all}
 use Rattle.std.specs.Char.{is_ascii_alphanumeric}
 use Rattle.std.proofs.lemmas.Bool.{agree_below, agree_below_at, and_parts, leb-true, ltb-true, not-true}
 use Rattle.std.proofs.lemmas.Fmt.{decimal_nonempty}
 use Rattle.text_lines.specs.Bytes.{is_blank, is_tight}
-use Rattle.text_lines.specs.Reading.{is_empty}
 use Rattle.text_lines.proofs.CleanWords.{is_plain, is_solid, IsClean, clean_solid}
 use Rattle.text_lines.proofs.NumbersAgain.{all_digits}
 use Rattle.option_table.specs.declared.rows.OptionName.{OptionName}
@@ -26,10 +25,6 @@ key_bytes o = each_row (λ q. list_all is_ascii_alphanumeric (row_of q).key) ref
 pub key_some : (o : OptionName) → 0 < length (row_of o).key
 unfolding row_of
 key_some o = ltb-true 0 (length (row_of o).key) (each_row (λ q. nat_lt 0 (length (row_of q).key)) refl o)
-
-pub key_not_empty : (o : OptionName) → is_empty (row_of o).key ≡ false
-unfolding row_of
-key_not_empty o = not-true (is_empty (row_of o).key) (each_row (λ q. not (is_empty (row_of q).key)) refl o)
 
 pub key_clean : (o : OptionName) → IsClean (row_of o).key
 unfolding row_of
