@@ -11,7 +11,7 @@ use Rattle.std.proofs.lemmas.List.Folds.{list_all-map}
 use Rattle.std.proofs.lemmas.Option.{slice_get-get_or}
 use Rattle.share_base.specs.Names.{is_name, same_name}
 use Rattle.share_base.proofs.ListTests.{all_append, all_parts, all_at}
-use Rattle.text_lines.proofs.WordsAgain.{text_of}
+use Rattle.text_lines.proofs.SpelledWords.{text_of}
 use Rattle.option_table.specs.Settings.{none_set}
 use Rattle.config_text.specs.declared.faults.Fault.{Fault}
 use Rattle.config_text.specs.declared.screens.Alias.{Alias}

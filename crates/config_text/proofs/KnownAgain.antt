@@ -7,7 +7,7 @@ use Rattle.share_base.specs.Names.{is_name, same_name}
 use Rattle.share_base.proofs.ListTests.{all_parts, any_none, none_of_any}
 use Rattle.share_base.proofs.SameNames.{same_name_refl}
 use Rattle.text_lines.specs.Reading.{is_empty}
-use Rattle.text_lines.proofs.WordsAgain.{text_of}
+use Rattle.text_lines.proofs.SpelledWords.{text_of}
 use Rattle.config_text.specs.declared.screens.Alias.{Alias}
 use Rattle.config_text.specs.declared.screens.Screen.{Screen}
 use Rattle.config_text.specs.declared.sections.Opened.{Opened}

@@ -10,7 +10,7 @@ use Rattle.share_base.proofs.ListTests.{all_weaker, any_none}
 use Rattle.share_base.proofs.Ends.{last_is}
 use Rattle.text_lines.specs.declared.bytes.WordKind.TheVariants as kind
 use Rattle.text_lines.specs.Bytes.{takes}
-use Rattle.text_lines.proofs.WordsAgain.{text_of}
+use Rattle.text_lines.proofs.SpelledWords.{text_of}
 use Rattle.hotkey_text.proofs.ArgumentBytes.{each_byte}
 use Rattle.config_text.specs.Shapes.{header_at}
 use Rattle.config_text.specs.Sections.{is_header}

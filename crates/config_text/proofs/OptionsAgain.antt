@@ -10,7 +10,7 @@ use Rattle.text_lines.specs.declared.bytes.WordKind.TheVariants as kind
 use Rattle.text_lines.specs.Bytes.{takes, unblanked}
 use Rattle.text_lines.specs.Reading.{begins}
 use Rattle.text_lines.proofs.CleanWords.{IsClean, clean_around}
-use Rattle.text_lines.proofs.WordsAgain.{behind_is, text_of}
+use Rattle.text_lines.proofs.SpelledWords.{text_of, behind_again}
 use Rattle.option_table.specs.declared.rows.OptionName.{OptionName}
 use Rattle.option_table.specs.declared.rows.Scope.{Scope}
 use Rattle.option_table.specs.Table.{row_of}
@@ -104,7 +104,7 @@ own_again c name values h =
 no_hotkey : (o : OptionName) (v : ℕ) → is_hotkey (option_text o v) ≡ false
 no_hotkey o v =
     let value = 32 ∷ 61 ∷ 32 ∷ value_text (row_of o).form v in
-    let no_bracket = ap (λ (t : List ℕ). begins 40 (unblanked t)) (behind_is (takes kind.Key) (row_of o).key value (key_bytes o) refl) in
+    let no_bracket = ap (λ (t : List ℕ). begins 40 (unblanked t)) (behind_again (takes kind.Key) (row_of o).key value (key_bytes o) refl) in
     ap is_hotkey (append_assoc (row_of o).key (codes " = ") (value_text (row_of o).form v)) ∙ and_right _ _ no_bracket
 
 abbrev with_settings : Configuration → Values → Configuration

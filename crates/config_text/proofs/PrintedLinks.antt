@@ -15,7 +15,7 @@ use Rattle.screen_links.specs.declared.range.Range.{Range}
 use Rattle.screen_links.specs.Ranges.{IsGood}
 use Rattle.text_lines.proofs.CleanWords.{is_plain, IsClean, clean_solid, clean_around}
 use Rattle.text_lines.proofs.NumbersAgain.{all_digits}
-use Rattle.text_lines.proofs.WordsAgain.{text_of}
+use Rattle.text_lines.proofs.SpelledWords.{text_of}
 use Rattle.config_text.specs.declared.faults.Fault.{Fault}
 use Rattle.config_text.specs.Judging.{good_range, range_of}
 use Rattle.config_text.specs.Normal.{range_text}

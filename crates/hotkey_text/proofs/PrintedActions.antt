@@ -11,8 +11,7 @@ use Rattle.text_lines.specs.declared.bytes.WordKind.TheVariants as kind
 use Rattle.text_lines.specs.Bytes.{takes}
 use Rattle.text_lines.specs.Reading.{is_empty, begins}
 use Rattle.text_lines.specs.Spelling.{IsGap, IsWord}
-use Rattle.text_lines.proofs.SpelledWords.{front_again, some_filled}
-use Rattle.text_lines.proofs.WordsAgain.{text_of}
+use Rattle.text_lines.proofs.SpelledWords.{front_again, some_filled, text_of}
 use Rattle.hotkey_rules.specs.declared.action.Action.{Action}
 use Rattle.hotkey_rules.specs.declared.action.Action.TheVariants as action
 use Rattle.hotkey_rules.specs.declared.trigger.Trigger.{Trigger}

@@ -10,8 +10,7 @@ use Rattle.text_lines.specs.declared.bytes.WordKind.TheVariants as word_kind
 use Rattle.text_lines.specs.Bytes.{takes, front, behind, unblanked}
 use Rattle.text_lines.specs.Reading.{◌>>=◌, Text, run_at, begins, is_empty}
 use Rattle.text_lines.specs.Spelling.{IsRun}
-use Rattle.text_lines.proofs.SpelledWords.{run_takes, gap_again, some_filled, filled_some}
-use Rattle.text_lines.proofs.WordsAgain.{text_of}
+use Rattle.text_lines.proofs.SpelledWords.{run_takes, gap_again, some_filled, filled_some, text_of}
 use Rattle.hotkey_rules.specs.declared.action.LockMode.{LockMode}
 use Rattle.hotkey_rules.specs.declared.action.LockMode.TheVariants as lock
 use Rattle.hotkey_text.specs.declared.faults.HotkeyFault.{HotkeyFault}

@@ -5,8 +5,7 @@ use Rattle.text_lines.specs.Bytes.{takes, is_tight, unblanked, front, behind}
 use Rattle.text_lines.specs.Reading.{Text, run_at, maybe_sign_at, begins}
 use Rattle.text_lines.specs.Spelling.{IsGap}
 use Rattle.text_lines.proofs.MaybeSigns.{maybe_sign_takes, maybe_sign_again, other_there, no_maybe_sign}
-use Rattle.text_lines.proofs.SpelledWords.{gap_again, Breaks, front_again, behind_again, run_takes}
-use Rattle.text_lines.proofs.WordsAgain.{text_of}
+use Rattle.text_lines.proofs.SpelledWords.{gap_again, Breaks, front_again, behind_again, run_takes, text_of}
 use Rattle.hotkey_text.specs.ChordWords.{ChordWords, with_mod, word_or_last, words_within, chord_words, SpellsPart, SpellsParts, SpellsChordWords}
 
 -- ---- a word

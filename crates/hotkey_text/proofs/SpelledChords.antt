@@ -14,10 +14,9 @@ use Rattle.text_lines.specs.Bytes.{takes, is_tight}
 use Rattle.text_lines.specs.Numbers.{decimal_of}
 use Rattle.text_lines.specs.Reading.{◌>>=◌, Text, run_at, maybe_sign_at}
 use Rattle.text_lines.specs.Spelling.{IsWord}
-use Rattle.text_lines.proofs.SpelledWords.{word_tight, run_takes}
+use Rattle.text_lines.proofs.SpelledWords.{word_tight, run_takes, text_of}
 use Rattle.text_lines.proofs.NumbersAgain.{decimal_again}
 use Rattle.text_lines.proofs.DecimalsSpelled.{decimal_spelled, decimal_within}
-use Rattle.text_lines.proofs.WordsAgain.{text_of}
 use Rattle.hotkey_rules.specs.KeyNames.{named_keys, key_of_name}
 use Rattle.hotkey_text.specs.declared.chords.KeyChord.{KeyChord}
 use Rattle.hotkey_text.specs.declared.chords.MouseChord.{MouseChord}

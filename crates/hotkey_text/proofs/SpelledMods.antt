@@ -14,8 +14,7 @@ use Rattle.text_lines.specs.declared.bytes.WordKind.TheVariants as kind
 use Rattle.text_lines.specs.Bytes.{takes, is_tight}
 use Rattle.text_lines.specs.Reading.{Text, run_at, maybe_sign_at}
 use Rattle.text_lines.specs.Spelling.{IsRun, IsWord}
-use Rattle.text_lines.proofs.SpelledWords.{word_tight}
-use Rattle.text_lines.proofs.WordsAgain.{text_of}
+use Rattle.text_lines.proofs.SpelledWords.{word_tight, text_of}
 use Rattle.text_lines.proofs.MaybeSigns.{maybe_sign_takes, maybe_sign_again}
 use Rattle.hotkey_rules.proofs.FirstFound.{found_listed}
 use Rattle.hotkey_text.specs.Chords.{mask, class_word, class_named, has_class, with_modifier, or_last_word, mods_within, mods_at}

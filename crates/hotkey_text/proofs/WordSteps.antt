@@ -8,8 +8,7 @@ use Rattle.text_lines.specs.Bytes.{takes, behind, is_tight, unblanked}
 use Rattle.text_lines.specs.Reading.{◌>>=◌, run_at}
 use Rattle.text_lines.specs.Spelling.{IsRun}
 use Rattle.text_lines.proofs.MaybeSigns.{begun}
-use Rattle.text_lines.proofs.SpelledWords.{Breaks, has_no_blank, run_takes, gap_again, gap_breaks, front_again, behind_again}
-use Rattle.text_lines.proofs.WordsAgain.{text_of}
+use Rattle.text_lines.proofs.SpelledWords.{Breaks, has_no_blank, run_takes, gap_again, gap_breaks, front_again, behind_again, text_of}
 use Rattle.hotkey_rules.proofs.FirstFound.{found_listed}
 use Rattle.hotkey_text.specs.declared.faults.HotkeyFault.{HotkeyFault}
 use Rattle.hotkey_text.specs.declared.faults.HotkeyKind.{HotkeyKind}

@@ -14,4 +14,3 @@ pub mod Stopping
 pub mod Trims
 pub mod WholeLines
 pub mod WordLists
-pub mod WordsAgain

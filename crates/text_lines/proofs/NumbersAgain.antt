@@ -21,9 +21,6 @@ all_digits p each n h =
 pub digit_is : (d : ℕ) → d < 10 → is_ascii_digit (48 + d) ≡ true
 digit_is d h = agree_below_at (λ d. is_ascii_digit (48 + d)) (λ d. true) 10 d refl h
 
-pub decimal_digits : (n : ℕ) → n < 2 ^ 64 → list_all is_ascii_digit (decimal n) ≡ true
-decimal_digits n h = all_digits is_ascii_digit digit_is n h
-
 -- ---- read by its form: one to three digits
 
 -- no digit stands at the front

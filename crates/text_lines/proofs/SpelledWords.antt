@@ -122,6 +122,9 @@ end_stops (b ∷ bs) left h = cc
 
 -- ---- words
 
+abbrev pub text_of : List ℕ → ℕ → Text
+text_of word left = record { text = word; left = left }
+
 -- nothing follows, or a byte of another kind
 abbrev pub Breaks : (ℕ → Bool) → List ℕ → Type 0
 Breaks p [] = Unit {0}
