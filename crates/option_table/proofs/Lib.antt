@@ -1,4 +1,6 @@
 pub mod CornerSets
+pub mod CornerSteps
+pub mod CornersByWords
 pub mod NoneSet
 pub mod PrintedAgain
 pub mod PrintedBytes

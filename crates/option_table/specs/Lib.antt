@@ -1,4 +1,5 @@
 pub mod Corners
+pub mod CornersByWords
 pub mod Places
 pub mod Printed
 pub mod Seen

@@ -1,8 +1,11 @@
-//! The law of printed options. The call does nothing: its contract is the law.
+//! Laws of printed options and of corners. The calls do nothing: their contracts are the laws.
 
-ghost use Rattle.std.specs.Prelude.{◌≡◌, ℕ, true, Some};
+ghost use Rattle.std.specs.Prelude.{◌≡◌, ◌≤◌, ◌&&◌, ℕ, List, true, is_some, Some};
+ghost use Rattle.std.specs.List.{list_all};
 ghost use Rattle.option_table.specs.declared.rows.OptionName.{OptionName};
 ghost use Rattle.option_table.specs.Table.{row_of, option_named};
+ghost use Rattle.option_table.specs.Corners.{of_words};
+ghost use Rattle.option_table.specs.CornersByWords.{Corner, has, IsAdded, is_corner_word, is_some_word};
 ghost use Rattle.option_table.specs.Values.{suits, value_of};
 ghost use Rattle.option_table.specs.Printed.{value_text};
 
@@ -11,4 +14,13 @@ ghost use Rattle.option_table.specs.Printed.{value_text};
 pub fn printed_option_is_read()
     ensures key { (option : OptionName) → option_named (row_of option).key ≡ Some option }
     ensures value { (option : OptionName) (v : ℕ) → suits (row_of option).form v ≡ true → value_of (row_of option).form (value_text (row_of option).form v) ≡ Some v }
+{}
+
+/// Words make a set of the four corners exactly where there are some, and each is one for corners. A corner is in
+/// the set exactly where a word adds it and none behind that word takes it away.
+pub fn corners_go_by_the_last_word()
+    ensures some { (words : List (List ℕ)) → is_some (of_words words) ≡ (is_some_word words && list_all is_corner_word words) }
+    ensures few { (words : List (List ℕ)) (set : ℕ) → of_words words ≡ Some set → set ≤ 15 }
+    ensures held { (words : List (List ℕ)) (set : ℕ) (c : Corner) → of_words words ≡ Some set → has set c ≡ true → IsAdded c words }
+    ensures added { (words : List (List ℕ)) (set : ℕ) (c : Corner) → of_words words ≡ Some set → IsAdded c words → has set c ≡ true }
 {}

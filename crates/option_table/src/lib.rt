@@ -17,7 +17,7 @@ mod values;
 mod wire;
 
 pub use corners::CornerWord;
-pub use laws::printed_option_is_read;
+pub use laws::{corners_go_by_the_last_word, printed_option_is_read};
 pub use printing::{put_number, put_option_lines};
 pub use rows::{OPTIONS, OptionName, Row, Scope, ValueForm};
 pub use settings::Settings;
