@@ -6,7 +6,7 @@ use Rattle.text_lines.specs.Bytes.{takes, is_tight}
 use Rattle.text_lines.specs.Reading.{◌>>=◌, Text, sign_at, begins}
 use Rattle.text_lines.specs.Spelling.{IsGap, StopsAt}
 use Rattle.text_lines.proofs.SpelledWords.{Word, Breaks, gap_breaks, gap_again}
-use Rattle.text_lines.proofs.Stopping.{never_read, word_gap_again}
+use Rattle.text_lines.proofs.Stopping.{never_read, word_gap_again, flat}
 use Rattle.share_base.specs.Sides.{side_text}
 use Rattle.config_text.specs.Shapes.{RangeText, LinkText, maybe_range_at, link_at}
 use Rattle.config_text.specs.SpellingLinks.{SpellsTarget, SpellsLink, IsLink}
@@ -15,7 +15,7 @@ use Rattle.config_text.proofs.SpelledLinks.{side_word, link_again}
 use Rattle.config_text.proofs.SpelledRanges.{RangeThen, maybe_none, maybe_some, maybe_bad, moved}
 use Rattle.config_text.proofs.Stops.{run_before}
 use Rattle.config_text.proofs.StopsRanges.{RangeStops}
-use Rattle.config_text.proofs.StopsTargets.{behind_sign, opened_begins, opened_tight, opened_breaks, flat, flat_range}
+use Rattle.config_text.proofs.StopsTargets.{behind_sign, opened_begins, opened_tight, opened_breaks, flat_range}
 
 -- ---- what is read behind the side, and behind a range
 

@@ -6,7 +6,7 @@ use Rattle.text_lines.specs.Bytes.{takes, is_tight}
 use Rattle.text_lines.specs.Reading.{◌>>=◌, Text, word_at, end_at, begins}
 use Rattle.text_lines.specs.Spelling.{IsWord}
 use Rattle.text_lines.proofs.SpelledWords.{on_err, Word, Breaks, gap_breaks, gap_again, word_takes, word_tight, end_stops}
-use Rattle.text_lines.proofs.Stopping.{NoWord, word_stops, no_word, word_gap_again}
+use Rattle.text_lines.proofs.Stopping.{NoWord, word_stops, no_word, word_gap_again, flat}
 use Rattle.config_text.specs.Shapes.{RangeText, LinkText, maybe_range_at}
 use Rattle.config_text.specs.SpellingLinks.{SpellsTarget}
 use Rattle.config_text.proofs.SpelledRanges.{RangeThen, maybe_cases, maybe_stops, maybe_none, maybe_some, maybe_bad, moved}
@@ -28,9 +28,6 @@ opened_tight good front e xs = ap (λ (t : List ℕ). is_tight (t ++ xs)) e
 
 pub opened_breaks : (p : ℕ → Bool) → p 40 ≡ false → (good front : List ℕ) → good ≡ 40 ∷ front → (xs : List ℕ) → Breaks p (good ++ xs)
 opened_breaks p o good front e xs = subst (λ (t : List ℕ). Breaks p (t ++ xs)) (sym e) o
-
-pub flat : (a g c xs : List ℕ) → (a ++ (g ++ c)) ++ xs ≡ a ++ (g ++ (c ++ xs))
-flat a g c xs = simp append_assoc
 
 pub flat_range : (a g c d xs : List ℕ) → (a ++ (g ++ (c ++ d))) ++ xs ≡ a ++ (g ++ (c ++ (d ++ xs)))
 flat_range a g c d xs = simp append_assoc

@@ -1,6 +1,7 @@
 -- What is spelled at the front of a text is spelled there with any other rest behind it, too.
 use Rattle.std.proofs.Common.{◌≡◌, ℕ, Bool, List, [], ◌∷◌, ◌++◌, length, refl, ap, sym, subst, ◌∙◌, append_assoc}
 use Rattle.text_lines.specs.Spelling.{IsGap}
+use Rattle.text_lines.proofs.Stopping.{flat}
 use Rattle.hotkey_text.specs.Shapes.{ActionForm}
 use Rattle.hotkey_text.specs.Spelling.{SpellsBrackets, SpellsAction, SpellsList}
 
@@ -47,9 +48,6 @@ brackets_front xs argument rest s =
         },
       );
     }
-
-pub flat : (a g c xs : List ℕ) → (a ++ (g ++ c)) ++ xs ≡ a ++ (g ++ (c ++ xs))
-flat a g c xs = simp append_assoc
 
 pub action_front : (xs : List ℕ) (a : ActionForm) (rest : List ℕ) → SpellsAction xs a rest → Front SpellsAction xs rest
 action_front xs a rest s =

@@ -6,11 +6,11 @@ use Rattle.text_lines.specs.declared.bytes.WordKind.TheVariants as kind
 use Rattle.text_lines.specs.Bytes.{takes, is_tight, front, behind}
 use Rattle.text_lines.specs.Reading.{Text, word_at, sign_at, begins}
 use Rattle.text_lines.proofs.SpelledWords.{on_err, Sign, NoSign, Word, Breaks, behind_breaks, front_run, word_takes, sign_takes, sign_stops, no_sign}
-use Rattle.text_lines.proofs.Stopping.{NoWord, word_stops, no_word, same_next, word_gap_again}
+use Rattle.text_lines.proofs.Stopping.{NoWord, word_stops, no_word, same_next, word_gap_again, flat}
 use Rattle.hotkey_text.specs.Shapes.{argument_at, action_at}
 use Rattle.hotkey_text.specs.Spelling.{SpellsBrackets, SpellsAction}
 use Rattle.hotkey_text.proofs.SpelledBrackets.{tight_front}
-use Rattle.hotkey_text.proofs.Fronts.{next_first, flat}
+use Rattle.hotkey_text.proofs.Fronts.{next_first}
 
 -- what is good so far can be ended, with any rest behind it, and is never read over the byte that stands there
 pub record Halts {A X : Type 0} (Spells : List ℕ → A → List ℕ → Type 0) (reads : List ℕ → Result X ℕ) (xs : List ℕ) (left : ℕ) : Type 0 where

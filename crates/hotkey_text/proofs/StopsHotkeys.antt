@@ -5,7 +5,7 @@ use Rattle.text_lines.specs.Bytes.{takes, is_tight}
 use Rattle.text_lines.specs.Reading.{◌>>=◌, sign_at}
 use Rattle.text_lines.specs.Spelling.{IsGap, StopsAt}
 use Rattle.text_lines.proofs.SpelledWords.{on_err, Sign, NoSign, sign_takes, sign_again, sign_stops, no_sign, gap_breaks}
-use Rattle.text_lines.proofs.Stopping.{never_read, word_gap_again}
+use Rattle.text_lines.proofs.Stopping.{never_read, word_gap_again, flat}
 use Rattle.hotkey_text.specs.declared.names.TriggerKind.{TriggerKind}
 use Rattle.hotkey_text.specs.Names.{trigger_word}
 use Rattle.hotkey_text.specs.Shapes.{HotkeyForm, argument_at, press_at, release_at, is_hotkey, hotkey_at}
@@ -14,7 +14,7 @@ use Rattle.hotkey_text.proofs.WordsFound.{trigger_found}
 use Rattle.hotkey_text.proofs.HotkeyWords.{trigger_is_word, hotkey_begins}
 use Rattle.hotkey_text.proofs.SpelledBrackets.{Argument, argument_takes, argument_again}
 use Rattle.hotkey_text.proofs.SpelledHotkeys.{hotkey_again}
-use Rattle.hotkey_text.proofs.Fronts.{next_first, brackets_front, flat, flat_sign}
+use Rattle.hotkey_text.proofs.Fronts.{next_first, brackets_front, flat_sign}
 use Rattle.hotkey_text.proofs.StopsActions.{Halts, argument_halts}
 use Rattle.hotkey_text.proofs.StopsLists.{Blocked}
 use Rattle.hotkey_text.proofs.StopsBothLists.{IsLists, both_lists, both_blocked}

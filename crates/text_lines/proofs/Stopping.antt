@@ -11,6 +11,9 @@ use Rattle.text_lines.proofs.SpelledWords.{Breaks, one_answer, gap_again, word_a
 abbrev pub Line : {A : Type 0} → (List ℕ → A → Type 0) → List ℕ → Type 0
 Line {A} Spells xs = (x : A) × Spells xs x
 
+pub flat : (a g c xs : List ℕ) → (a ++ (g ++ c)) ++ xs ≡ a ++ (g ++ (c ++ xs))
+flat a g c xs = simp append_assoc
+
 -- no line goes on over a byte behind which its form is never read
 pub never_read : {A : Type 0} (form : List ℕ → Result A ℕ) (Spells : List ℕ → A → Type 0) → ((xs : List ℕ) (x : A) → Spells xs x → form xs ≡ Ok x)
     → (good : List ℕ) (b : ℕ) → ((more : List ℕ) → (left : ℕ) × (form (good ++ b ∷ more) ≡ Err left)) → CanGoOn (Line Spells) (good ++ b ∷ []) → ⊥

@@ -19,7 +19,8 @@ pub fn lines_are_spelled()
     ensures forbidden_read { (raw : List ℕ) (place : ℕ) → SpellsForbidden raw place → line_text raw ≡ Forbidden place }
 {}
 
-/// A text is read as a number of at most `max` exactly where it is that number's decimal digits.
+/// A text is read as a number of at most `max`, which is below 2^64, exactly where it is that number's decimal
+/// digits.
 pub fn numbers_are_spelled()
     ensures spelled { (max n : ℕ) (text : List ℕ) → max < 2 ^ 64 → decimal_of max text ≡ Some n → text ≡ decimal n }
     ensures within { (max n : ℕ) (text : List ℕ) → decimal_of max text ≡ Some n → n ≤ max }
