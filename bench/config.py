@@ -60,6 +60,13 @@ def links(count, parts):
                 yield f"\t\t{side}({at},{at + step}) = {name((number + 1) % count)}({at},{at + step})\n"
 
 
+def hotkeys(count, each):
+    """Hotkeys of so many actions on each of their lists. Every key of an action has its own number, up to 256."""
+    for number in range(count):
+        actions = ", ".join(f"keyDown(Control+Alt+\\u{0x1000 + (number + k) % 256:04X})" for k in range(each))
+        yield f"\tkeystroke(Shift+\\u{0x2000 + number:04X}) = {actions}; {actions}\n"
+
+
 def filling(size):
     """Comments and repeated options, no more than so many bytes."""
     while True:
@@ -94,6 +101,11 @@ def full():
     )
 
 
+def full_of_hotkeys():
+    """As many hotkeys, actions and keys of actions as there may be."""
+    return "".join(section("options", hotkeys(256, 8)))
+
+
 def checked(text):
     """The quickest of some runs on a file of that text, with the peak of all of them, and the least time that the
     processor took."""
@@ -115,7 +127,8 @@ def main():
         ("nothing", ""),
         ("64 KiB", of_size(SMALL)),
         ("1 MiB", of_size(LARGE)),
-        ("as full as can be", full()),
+        ("all screens and links", full()),
+        ("all hotkeys", full_of_hotkeys()),
     ]:
         run, taken[title] = checked(text)
         show(title, len(text), run)
