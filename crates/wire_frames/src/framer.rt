@@ -115,6 +115,37 @@ impl Framer {
         Ok(())
     }
 
+    /// Returns the offset of the next frame in the stream, in bytes.
+    pub fn place(&self) -> u64
+        ensures { result ≡ self.now.given }
+    {
+        self.gone + self.last as u64
+    }
+
+    /// Returns what `next` would answer, and leaves the frame where it is. It takes no memory.
+    pub fn peek(&self) -> FrameStep<'_>
+        ensures answers { Answers self.now result }
+        ensures bound { self.now.given + length self.now.rest < 2 ^ 63 }
+    {
+        let rest = &self.bytes[self.last..];
+        if rest.len() < 4 {
+            return FrameStep::More;
+        }
+        let place = self.gone + self.last as u64;
+        let len = first_length(rest);
+        if self.limit < len {
+            return FrameStep::TooLong { place, len };
+        }
+        let end = 4 + len as usize;
+        if rest.len() < end {
+            return FrameStep::More;
+        }
+        FrameStep::Frame {
+            place,
+            body: &rest[4..end],
+        }
+    }
+
     /// What stands at the front of the rest. It takes no memory.
     #[tactic(auto, using(crate::proofs::First::bounded, crate::proofs::Histories::stands_refused))]
     pub fn next(&mut self) -> FrameStep<'_>
