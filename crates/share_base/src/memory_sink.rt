@@ -2,8 +2,8 @@
 
 ghost use Rattle.std.specs.Prelude.{◌≡◌, ◌<◌, ◌≤◌, ◌↔◌, ◌⊎◌, IfOk, Contains, length};
 ghost use Rattle.share_base.specs.Counts.{one_more};
-ghost use Rattle.share_base.specs.Writing.{FitsWrite, WriteTakes, WriteCounts};
-ghost use Rattle.share_base.specs.Memory.{MemoryOutput, output_of, SameOutput};
+ghost use Rattle.share_base.specs.Writing.{FitsWrite, Writes};
+ghost use Rattle.share_base.specs.Memory.{MemoryOutput, output_of, output_state, SameOutput};
 
 use crate::out_of_memory::OutOfMemory;
 use crate::sink::{Sink, SinkAnswer};
@@ -63,18 +63,13 @@ impl MemorySink {
 }
 
 impl Sink for MemorySink {
-    ghost use Rattle.std.specs.Prelude.{Some};
-
-    ghost taken = { λ s. Some s.taken };
-
-    ghost faults = { λ s. s.faults };
+    ghost state = { output_state };
 
     /// Fails exactly at the listed calls and where no room is left.
     fn write(&mut self, bytes: &[u8]) -> SinkAnswer
         requires { 0 < length bytes.now }
         ensures fits { FitsWrite result (length bytes.now) }
-        ensures takes { WriteTakes result bytes.now (Some self.old.taken) (Some self.new.taken) }
-        ensures counts { WriteCounts result self.old.faults self.new.faults }
+        ensures writes { Writes result bytes.now (output_state self.old) (output_state self.new) }
         ensures fails { (result ≡ SinkAnswer.Failed) ↔ (Contains self.old.failing (one_more self.old.calls) ⊎ (self.old.room ≤ length self.old.taken)) }
         ensures kept { SameOutput self.old self.new }
     {

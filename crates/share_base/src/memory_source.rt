@@ -2,8 +2,8 @@
 
 ghost use Rattle.std.specs.Prelude.{◌≡◌, ◌<◌, ◌↔◌, IfOk, Contains, length};
 ghost use Rattle.share_base.specs.Counts.{one_more};
-ghost use Rattle.share_base.specs.Reading.{FitsRead, ReadGives, ReadEnds, ReadCounts};
-ghost use Rattle.share_base.specs.Memory.{MemoryInput, input_of, SameInput};
+ghost use Rattle.share_base.specs.Reading.{FitsRead, Reads};
+ghost use Rattle.share_base.specs.Memory.{MemoryInput, input_of, input_state, SameInput};
 
 use crate::out_of_memory::OutOfMemory;
 use crate::source::{Source, SourceAnswer};
@@ -60,26 +60,13 @@ impl MemorySource {
 }
 
 impl Source for MemorySource {
-    ghost use Rattle.std.specs.Prelude.{Some};
-
-    ghost left = { λ s. Some s.left };
-
-    ghost ended = { λ s. Some s.ended };
-
-    ghost left_before = { λ s. Some s.left_before };
-
-    ghost ended_before = { λ s. Some s.ended_before };
-
-    ghost faults = { λ s. s.faults };
+    ghost state = { input_state };
 
     /// Fails exactly at the listed calls.
     fn read(&mut self, buf: &mut [u8]) -> SourceAnswer
         requires { 0 < length buf.old }
         ensures fits { FitsRead result (length buf.old) }
-        ensures gives { ReadGives result buf.new (Some self.old.left) (Some self.new.left) }
-        ensures ends { ReadEnds result (Some self.old.ended) (Some self.new.ended) }
-        ensures latest { (Some self.new.left_before ≡ Some self.old.left) × (Some self.new.ended_before ≡ Some self.old.ended) }
-        ensures counts { ReadCounts result self.old.faults self.new.faults }
+        ensures reads { Reads result buf.new (input_state self.old) (input_state self.new) }
         ensures fails { (result ≡ SourceAnswer.Failed) ↔ Contains self.old.failing (one_more self.old.calls) }
         ensures kept { SameInput self.old self.new }
     {

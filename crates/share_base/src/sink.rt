@@ -1,7 +1,7 @@
 //! Where bytes go.
 
-ghost use Rattle.std.specs.Prelude.{◌≡◌, ◌<◌, List, ℕ, Option, length};
-ghost use Rattle.share_base.specs.Writing.{FitsWrite, WriteTakes, WriteCounts, TakesAll, WriteAllCounts};
+ghost use Rattle.std.specs.Prelude.{◌<◌, length};
+ghost use Rattle.share_base.specs.Writing.{SinkState, FitsWrite, Writes, WritesAll};
 
 /// What a write answers.
 #[derive(Clone, Copy, Debug, PartialEq, Eq)]
@@ -14,25 +14,20 @@ pub enum SinkAnswer {
 
 /// Where bytes go. A sink that holds what it took tells it to contracts.
 pub trait Sink {
-    /// The bytes taken so far, where they are told.
-    ghost taken: { Self → Option (List ℕ) };
-
-    /// How often the sink has failed. It never falls, and stands still at its last value.
-    ghost faults: { Self → ℕ };
+    /// The bytes that it has taken, where they are known, and how often it has failed.
+    ghost state: { Self → SinkState };
 
     /// Writes a front of `bytes`, which are not empty.
     fn write(&mut self, bytes: &[u8]) -> SinkAnswer
         requires { 0 < length bytes.now }
         ensures fits { FitsWrite result (length bytes.now) }
-        ensures takes { WriteTakes result bytes.now (taken self.old) (taken self.new) }
-        ensures counts { WriteCounts result (faults self.old) (faults self.new) };
+        ensures writes { Writes result bytes.now (state self.old) (state self.new) };
 }
 
 /// Writes all the bytes, by as many writes as that takes. False comes only where the sink failed; it
 /// has taken a front of the bytes then, and no write is made after the one that failed.
 pub fn write_all<K: Sink>(out: &mut K, bytes: &[u8]) -> bool
-    ensures taken { TakesAll result bytes.now (K.taken out.old) (K.taken out.new) }
-    ensures counts { WriteAllCounts result (K.faults out.old) (K.faults out.new) }
+    ensures { WritesAll result bytes.now (K.state out.old) (K.state out.new) }
 {
     let mut at = 0;
     while at < bytes.len() {

@@ -6,8 +6,8 @@ use Rattle.share_base.proofs.sink.write_all.Given as goal
 abbrev pub invariant-loop-at : goal.invariant-loop-at
 invariant-loop-at g l = record {
   within : l.at ≤ length l.bytes;
-  taken : g.K.Sink.taken l.out ≡ after (g.K.Sink.taken l.fn.out) (take l.at l.bytes);
-  faults : g.K.Sink.faults l.out ≡ g.K.Sink.faults l.fn.out;
+  taken : (g.K.Sink.state l.out).taken ≡ after (g.K.Sink.state l.fn.out).taken (take l.at l.bytes);
+  faults : (g.K.Sink.state l.out).faults ≡ (g.K.Sink.state l.fn.out).faults;
 }
 
 abbrev pub decreases-loop-at : goal.decreases-loop-at
