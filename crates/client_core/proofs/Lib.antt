@@ -1,3 +1,3 @@
 pub mod Pairs
 pub mod Screens
-pub mod Going
+pub mod Streams

@@ -1,19 +1,16 @@
--- How a message, or a bad frame, ends a client.
-use Rattle.std.specs.Prelude.{◌≡◌, ℕ, List, ◌++◌, length, Option, Some, None}
-use Rattle.message_codec.specs.declared.messages.End.TheVariants as ends
+-- How the verdict on a server's stream ends a client, and which of its messages the client hears.
+use Rattle.std.specs.Prelude.{◌≡◌, ℕ, List, Option, Some, None}
+use Rattle.std.specs.Option.{option_map}
 use Rattle.message_codec.specs.declared.messages.Msg.{Msg}
 use Rattle.message_codec.specs.declared.messages.Msg.TheVariants as msg
-use Rattle.message_codec.specs.Streams.{frame_of, frames_of, Reader, plain, IsGood}
-use Rattle.message_codec.specs.Verdicts.{IsBad}
+use Rattle.message_codec.specs.Streams.{Reader}
+use Rattle.message_codec.specs.Verdicts.{Verdict}
+use Rattle.message_reader.specs.Endings.{before_end, Outcome, Stopped, Failed, outcome, IsFront}
 use Rattle.client_core.specs.declared.client_end.ClientEnd.{ClientEnd}
 use Rattle.client_core.specs.declared.client_end.ClientEnd.TheVariants as end
 use Rattle.client_core.specs.declared.client_end.Which.TheVariants as which
 use Rattle.client_core.specs.declared.stop.Stop.{Stop}
 use Rattle.client_core.specs.declared.stop.Stop.TheVariants as stop
-
--- an injecting client reads a server's messages, each of which may stand anywhere
-abbrev pub server : Reader
-server = plain ends.Server
 
 -- a farewell, a refusal, or what has no line yet
 abbrev pub stop_of : Msg → Option Stop
@@ -31,22 +28,20 @@ end_at place stop.Bye = end.Bye
 end_at place (stop.Refused why) = end.Refused why
 end_at place stop.NotYet = end.NotYet place
 
--- after those messages, one that stops the client so stands at the front
-pub record HasStop (before : List Msg) (by : Stop) (bytes : List ℕ) : Type 0 where
-  pub message : Msg
-  pub more : List ℕ
-  pub front : bytes ≡ frame_of message ++ more
-  pub good : IsGood server before message
-  pub stops : stop_of message ≡ Some by
+-- the client's end where the stream ends the reading so
+abbrev pub end_by : Outcome Stop → ClientEnd
+end_by (Stopped place by) = end_at place by
+end_by (Failed bad) = end.BadPeer bad.place bad.reason
 
--- after those messages, what ends the client so stands at the front: a message that does, or a bad frame; no other end comes from the stream
-abbrev pub EndsAt : ClientEnd → List Msg → List ℕ → Type 0
-EndsAt end.Bye before bytes = HasStop before stop.Bye bytes
-EndsAt (end.Refused why) before bytes = HasStop before (stop.Refused why) bytes
-EndsAt (end.NotYet place) before bytes = (place ≡ length (frames_of before)) × HasStop before stop.NotYet bytes
-EndsAt (end.BadPeer place reason) before bytes = (place ≡ length (frames_of before)) × IsBad server before reason bytes
-EndsAt (end.Lost cause) before bytes = ⊥
-EndsAt end.TurnsSpent before bytes = ⊥
-EndsAt end.LinkFault before bytes = ⊥
-EndsAt end.WriteFault before bytes = ⊥
-EndsAt end.OutOfMemory before bytes = ⊥
+-- the messages that the client hears: those before the first that ends it
+abbrev pub heard_of : {reader : Reader} {stream : List ℕ} → Verdict reader stream → List Msg
+heard_of verdict = before_end stop_of verdict.messages
+
+-- how the stream ends the client
+abbrev pub end_of : {reader : Reader} {stream : List ℕ} → Verdict reader stream → Option ClientEnd
+end_of verdict = option_map end_by (outcome stop_of verdict)
+
+-- how a client that has heard these messages has ended: as the verdict says, after all that it hears; or out of memory, after some of them
+abbrev pub IsHeard : {reader : Reader} {stream : List ℕ} → Option ClientEnd → Verdict reader stream → List Msg → Type 0
+IsHeard (Some end.OutOfMemory) verdict messages = IsFront messages (heard_of verdict)
+IsHeard done verdict messages = (done ≡ end_of verdict) × (messages ≡ heard_of verdict)

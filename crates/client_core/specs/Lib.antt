@@ -2,4 +2,3 @@ pub mod Hearing
 pub mod Showing
 pub mod Ends
 pub mod Kept
-pub mod Taking

@@ -1,156 +1,115 @@
 //! The client.
 
-ghost use Rattle.std.specs.Prelude.{◌≡◌, ◌+◌, ◌≤◌, ◌^◌, ◌<◌, ◌++◌, [], List, ℕ, true, false, None, IfOk, IsOk, IsErr, IsSome, OnErr, OnOk, length, unwrap_or};
-ghost use Rattle.message_codec.specs.declared.messages.Msg.{Msg};
+ghost use Rattle.std.specs.Prelude.{◌≡◌, ◌≢◌, ◌+◌, ◌≤◌, ◌^◌, ◌<◌, [], List, ℕ, Some, None, IsSome, OnErr, OnOk, length, unwrap_or};
+ghost use Rattle.message_codec.specs.declared.messages.Msg.{Msg as Message};
 
 use crate::client_end::ClientEnd;
+use crate::hearing::hear_piece;
 use crate::printer::Printer;
-use crate::taking::{Taken, take_next};
+use message_codec::End;
+use message_reader::{MessageReader, Role};
 use share_base::{Lines, OutOfMemory};
 use std::alloc::Global;
-use wire_frames::{BODY_LIMIT, Framer};
 
-/// A client over a server's stream, in whatever pieces it comes. It prints what is injected into its
+/// A client over the stream of a server, in whatever pieces it comes. It prints what is injected into its
 /// screen, and keeps what is down there.
 #[derive(Drop)]
 pub struct ClientCore {
-    alloc: Global,
-    framer: Framer,
+    reader: MessageReader,
     printer: Printer,
-    total: u64,
-    place: u64,
     done: Option<ClientEnd>,
-    broken: bool,
-    ghost counted: { framer.given + length framer.rest ≤ total },
-    ghost limit: { framer.limit ≡ 4194304 },
 }
 
 impl ClientCore {
-    ghost use Rattle.client_core.specs.Kept.{Heard, Kept, Grows, Breaks, Released, lines_in, begun_at};
+    ghost use Rattle.client_core.specs.declared.client_end.ClientEnd.{ClientEnd as Ending};
+    ghost use Rattle.client_core.specs.Kept.{Stands, Grows, ClearsLines, EndsReleased, partial_at, lines_in};
 
-    /// The client of injection: it hears every message of a server, sends nothing, and no moment counts.
-    /// It takes no memory yet, and answers `Ok`.
-    pub fn injecting(alloc: Global) -> Result<ClientCore, OutOfMemory>
-        ensures made { IsOk result }
-        ensures kept { IfOk result (λ core. Kept core [] [] []) }
-        ensures goes { IfOk result (λ core. core.done ≡ None) }
-        ensures empty { IfOk result (λ core. lines_in core ≡ []) }
-        ensures total { IfOk result (λ core. core.total ≡ 0) }
+    /// Creates the client of injection: it hears every message of a server, sends nothing, and no moment
+    /// counts. It takes no memory yet.
+    pub fn injecting(alloc: Global) -> ClientCore
+        ensures stands { Stands result [] [] [] }
+        ensures role { result.reader.role ≡ Role.Observer End.Server }
+        ensures goes { result.done ≡ None }
+        ensures empty { lines_in result ≡ [] }
+        ensures total { result.reader.total ≡ 0 }
     {
-        Ok(ClientCore {
-            alloc,
-            framer: Framer::new(alloc, BODY_LIMIT),
+        ClientCore {
+            reader: MessageReader::new(alloc, Role::Observer(End::Server)),
             printer: Printer::new(alloc),
-            total: 0,
-            place: 0,
             done: None,
-            broken: false,
-        })
+        }
     }
 
-    /// The next piece of the stream, of which there are fewer than 2^63 bytes in all. A message is
-    /// applied wholly or not at all. Once the client is done, only the bytes are counted. After
-    /// `OutOfMemory` the client has heard the messages before the one for which memory was wanting, and
-    /// every later call answers `OutOfMemory` and hears nothing.
+    /// Hears the next piece of the stream, which has fewer than 2^63 bytes in all. A message is applied
+    /// wholly or not at all. Once the client is done, nothing more is heard.
+    ///
+    /// On `OutOfMemory` the client has heard the messages before the one for which memory ran out. It is
+    /// done then, as `ClientEnd::OutOfMemory`, and every later call answers `OutOfMemory`.
     pub fn bytes(&mut self, piece: &[u8]) -> Result<(), OutOfMemory>
-        requires { self.old.total + length piece.now < 2 ^ 63 }
-        ensures ok { OnOk result ((messages : List Msg) (rest front : List ℕ) → Kept self.old messages rest front
-            → Grows self.new messages rest piece.now front) }
-        ensures err { OnErr result ((messages : List Msg) (rest front : List ℕ) → Kept self.old messages rest front
-            → Breaks self.new messages rest piece.now front) }
-        ensures total { self.new.total ≡ self.old.total + length piece.now }
-
-        // Nothing more is heard after an end, nor after want of memory, which stays.
-        ensures over { self.old.broken ≡ false → IsSome self.old.done → IsOk result × (self.new.done ≡ self.old.done) × (self.new.printer ≡ self.old.printer) }
-        ensures breaks { OnErr result ((self.new.broken ≡ true) × (self.new.done ≡ self.old.done)) }
-        ensures broken { self.old.broken ≡ true → IsErr result × (self.new.printer ≡ self.old.printer) }
+        requires { self.old.reader.total + length piece.now < 2 ^ 63 }
+        ensures hears { self.old.done ≡ None → Grows self.old self.new piece.now }
+        ensures over { IsSome self.old.done → self.new ≡ self.old }
+        ensures ok { OnOk result (self.new.done ≢ Some ClientEnd.OutOfMemory) }
+        ensures err { OnErr result (self.new.done ≡ Some ClientEnd.OutOfMemory) }
+        ensures total { self.new.reader.total ≤ self.old.reader.total + length piece.now }
     {
-        if self.broken {
-            self.total += piece.len() as u64;
-            return Err(OutOfMemory);
-        }
-        if let Some(_) = self.done {
-            self.total += piece.len() as u64;
-            return Ok(());
-        }
-        match self.take_all(piece) {
-            Ok(()) => Ok(()),
-            Err(OutOfMemory) => {
-                self.broken = true;
-                Err(OutOfMemory)
-            }
-        }
-    }
-
-    // The next piece, of a client that goes on.
-    fn take_all(&mut self, piece: &[u8]) -> Result<(), OutOfMemory>
-        requires goes { self.old.done ≡ None }
-        requires fits { self.old.total + length piece.now < 2 ^ 63 }
-        ensures ok { OnOk result ((messages : List Msg) (rest front : List ℕ) → Kept self.old messages rest front
-            → Grows self.new messages rest piece.now front) }
-        ensures err { OnErr result ((messages : List Msg) (rest front : List ℕ) → Kept self.old messages rest front
-            → Breaks self.new messages rest piece.now front) }
-        ensures total { self.new.total ≡ self.old.total + length piece.now }
-        ensures done { OnErr result (self.new.done ≡ self.old.done) }
-    {
-        self.total += piece.len() as u64;
-        self.framer.feed(piece)?;
-        loop {
-            match take_next(self.alloc, &mut self.framer, &mut self.printer)? {
-                Taken::Heard { end } => self.place = end,
-                Taken::More => return Ok(()),
-                Taken::End(end) => {
-                    self.done = Some(end);
-                    return Ok(());
+        match self.done {
+            None => match hear_piece(&mut self.reader, &mut self.printer, piece) {
+                Ok(done) => {
+                    self.done = done;
+                    Ok(())
                 }
-            }
+                Err(OutOfMemory) => {
+                    self.done = Some(ClientEnd::OutOfMemory);
+                    Err(OutOfMemory)
+                }
+            },
+            Some(ClientEnd::OutOfMemory) => Err(OutOfMemory),
+            Some(_) => Ok(()),
         }
     }
 
-    /// How the client ended; `None` exactly while it goes on. It takes no memory.
+    /// Returns how the client ended; `None` while it goes on.
     pub fn done(&self) -> Option<ClientEnd>
         ensures { result ≡ self.now.done }
     {
         self.done
     }
 
-    /// The place of a frame of which some bytes have come and not all. `None` comes exactly where there
-    /// is no such frame, or the client is done. It takes no memory.
-    pub fn begun(&self) -> Option<u64>
-        ensures { (messages : List Msg) (rest front : List ℕ) → Kept self.now messages rest front → result ≡ begun_at self.now.done messages rest }
+    /// Returns the offset of a frame of which some bytes have come and not all. `None` if there is none,
+    /// or if the client is done.
+    pub fn pending(&self) -> Option<u64>
+        ensures goes { self.now.done ≡ None → (stream : List ℕ) (messages : List Message) (front : List ℕ)
+            → (s : Stands self.now stream messages front) → result ≡ partial_at s.verdict }
+        ensures over { IsSome self.now.done → result ≡ None }
     {
-        if let Some(_) = self.done {
-            return None;
+        match self.done {
+            None => self.reader.pending(),
+            Some(_) => None,
         }
-        if self.place == self.total {
-            return None;
-        }
-        Some(self.place)
     }
 
-    /// The lines that were printed and not cleared. It takes no memory.
+    /// Returns the lines that were printed and not cleared.
     pub fn lines(&self) -> &[u8]
         ensures { result.now ≡ lines_in self.now }
     {
         self.printer.lines()
     }
 
-    /// Clears the lines. It takes no memory.
+    /// Clears the lines.
     pub fn clear_lines(&mut self)
-        ensures kept { (messages : List Msg) (rest front : List ℕ) → Kept self.old messages rest front → Kept self.new messages rest (front ++ lines_in self.old) }
-        ensures heard { (messages : List Msg) (front : List ℕ) → Heard self.old messages front → Heard self.new messages (front ++ lines_in self.old) }
+        ensures clears { ClearsLines self.old self.new }
         ensures empty { lines_in self.new ≡ [] }
         ensures rest { self.new ≡ record self.old { printer = self.new.printer } }
     {
         self.printer.clear_lines();
     }
 
-    /// The client's end: all that is down goes up, in the lines that are answered. It is called once, at
-    /// the end, with the end that the caller knows, which counts where the client has none yet. It takes
-    /// no memory.
+    /// Ends the client: all that is down goes up, in the lines that it returns. It is called once, with
+    /// the end that the caller knows, which counts where the client has none yet. It takes no memory.
     pub fn ended(&mut self, why: ClientEnd) -> Lines
         ensures done { self.new.done ≡ Some (unwrap_or self.old.done why) }
-        ensures released { (messages : List Msg) (front : List ℕ) → Heard self.old messages front → Released messages ((front ++ lines_in self.old) ++ result) }
+        ensures released { EndsReleased self.old result }
         ensures lines { lines_in self.new ≡ lines_in self.old }
         ensures rest { self.new ≡ record self.old { printer = self.new.printer; done = self.new.done } }
         ensures bound { length result ≤ 13824 }

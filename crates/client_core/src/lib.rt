@@ -8,10 +8,10 @@
 
 mod client;
 mod client_end;
+mod hearing;
 mod options;
 mod printer;
 mod stop;
-mod taking;
 #[cfg(test)]
 mod tests;
 

@@ -1,10 +1,10 @@
 //! The lines that a client's screen prints of messages.
 
-ghost use Rattle.std.specs.Prelude.{◌≡◌, ◌≤◌, ◌+◌, ◌++◌, [], List, ℕ, OnOk, OnErr, length};
+ghost use Rattle.std.specs.Prelude.{◌≡◌, ◌≤◌, [], OnOk, OnErr, length};
 ghost use Rattle.message_codec.specs.declared.messages.Msg.TheVariants as message;
-ghost use Rattle.held_inputs.specs.Screen.{Screen, Applies, after};
-ghost use Rattle.client_core.specs.Hearing.{heard, fresh};
-ghost use Rattle.client_core.specs.Showing.{Shows, Releases};
+ghost use Rattle.held_inputs.specs.Screen.{Applies, after};
+ghost use Rattle.client_core.specs.Hearing.{fresh};
+ghost use Rattle.client_core.specs.Showing.{Shows, Turns, Hears, ShowsOn, Clears, LetsGo};
 
 use crate::options::{add_line, add_options, set_options};
 use held_inputs::{Injector, Line};
@@ -37,8 +37,8 @@ impl Printer {
 
     /// Applies one message and prints its lines. After `OutOfMemory` neither is done.
     pub fn hear(&mut self, msg: &Msg) -> Result<(), OutOfMemory>
-        ensures ok { OnOk result ((s : Screen) (front : List ℕ) → Shows self.old s front → Shows self.new (heard s msg.now) front) }
-        ensures err { OnErr result ((s : Screen) (front : List ℕ) → Shows self.old s front → Shows self.new s front) }
+        ensures ok { OnOk result (Hears msg.now self.old self.new) }
+        ensures err { OnErr result (ShowsOn self.old self.new) }
     {
         match msg {
             Msg::ResetOptions => self.reset_options(),
@@ -49,8 +49,8 @@ impl Printer {
     }
 
     fn reset_options(&mut self) -> Result<(), OutOfMemory>
-        ensures ok { OnOk result ((s : Screen) (front : List ℕ) → Shows self.old s front → Shows self.new (heard s message.ResetOptions) front) }
-        ensures err { OnErr result ((s : Screen) (front : List ℕ) → Shows self.old s front → Shows self.new s front) }
+        ensures ok { OnOk result (Hears message.ResetOptions self.old self.new) }
+        ensures err { OnErr result (ShowsOn self.old self.new) }
     {
         add_line(&mut self.lines, Line::ResetOptions)?;
         self.injector.reset_options();
@@ -58,8 +58,8 @@ impl Printer {
     }
 
     fn set_options(&mut self, words: &[u32]) -> Result<(), OutOfMemory>
-        ensures ok { OnOk result ((s : Screen) (front : List ℕ) → Shows self.old s front → Shows self.new (heard s (message.SetOptions words.now)) front) }
-        ensures err { OnErr result ((s : Screen) (front : List ℕ) → Shows self.old s front → Shows self.new s front) }
+        ensures ok { OnOk result (Hears (message.SetOptions words.now) self.old self.new) }
+        ensures err { OnErr result (ShowsOn self.old self.new) }
     {
         let len = self.lines.len();
         match add_options(&mut self.lines, words) {
@@ -74,8 +74,8 @@ impl Printer {
     }
 
     fn apply(&mut self, msg: &Msg) -> Result<(), OutOfMemory>
-        ensures ok { OnOk result ((s : Screen) (front : List ℕ) → Shows self.old s front → Shows self.new (after s (Applies msg.now)) front) }
-        ensures err { OnErr result ((s : Screen) (front : List ℕ) → Shows self.old s front → Shows self.new s front) }
+        ensures ok { OnOk result (Turns (λ s. after s (Applies msg.now)) self.old self.new) }
+        ensures err { OnErr result (ShowsOn self.old self.new) }
     {
         self.lines.reserve(ROOM)?;
         self.injector.apply_to(msg, &mut self.lines);
@@ -91,7 +91,7 @@ impl Printer {
 
     /// Clears the lines.
     pub fn clear_lines(&mut self)
-        ensures shows { (s : Screen) (front : List ℕ) → Shows self.old s front → Shows self.new s (front ++ self.old.lines.items) }
+        ensures shows { Clears self.old self.new }
         ensures empty { self.new.lines.items ≡ [] }
     {
         self.lines.clear();
@@ -99,7 +99,7 @@ impl Printer {
 
     /// The ups of all that is down, which are not added to the lines. It takes no memory.
     pub fn release_all(&mut self) -> Lines
-        ensures released { (s : Screen) (front : List ℕ) → Shows self.old s front → Releases s ((front ++ self.old.lines.items) ++ result) }
+        ensures released { LetsGo self.old result }
         ensures lines { self.new.lines.items ≡ self.old.lines.items }
         ensures bound { length result ≤ 13824 }
     {

@@ -31,11 +31,11 @@ use Rattle.message_reader.proofs.FrontFrames.{length-frame, is_shorter}
 
 -- ---- pieces
 
-all_bytes : (bytes : List ℕ) → IsBytes bytes → AreBytes bytes
+pub all_bytes : (bytes : List ℕ) → IsBytes bytes → AreBytes bytes
 all_bytes [] small = tt
 all_bytes (b ∷ bytes) small = (small zero, all_bytes bytes (λ i. small (suc i)))
 
-bytes-append : (xs ys : List ℕ) → AreBytes xs → AreBytes ys → AreBytes (xs ++ ys)
+pub bytes-append : (xs ys : List ℕ) → AreBytes xs → AreBytes ys → AreBytes (xs ++ ys)
 bytes-append [] ys a b = b
 bytes-append (x ∷ xs) ys a b = (a.0, bytes-append xs ys a.1 b)
 

@@ -2,3 +2,4 @@ pub mod Roles
 pub mod ReaderParts
 pub mod Representation
 pub mod Steps
+pub mod Endings

@@ -39,7 +39,7 @@ pub record GivesMessage (old new : ReaderParts) (place : ℕ) (m : Msg) : Type 0
 pub record GivesNone (old new : ReaderParts) (bad : Option BadFrame) : Type 0 where
   pub role : new.role ≡ old.role
   pub bad_is : new.bad ≡ bad
-  pub concludes : (stream : List ℕ) (messages : List Msg) → Represents old stream messages → Concludes (reader_of old.role) stream messages bad
+  pub concludes : (stream : List ℕ) (messages : List Msg) → Represents old stream messages → Concludes (reader_of new.role) stream messages bad
   pub represents : (stream : List ℕ) (messages : List Msg) → Represents old stream messages → Represents new stream messages
 
 -- the next part of the verdict was given

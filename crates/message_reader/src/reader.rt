@@ -1,6 +1,6 @@
 //! The reader.
 
-ghost use Rattle.std.specs.Prelude.{◌≡◌, ◌+◌, ◌^◌, ◌<◌, [], List, ℕ, false, IfOk, OnOk, OnErr, length};
+ghost use Rattle.std.specs.Prelude.{◌≡◌, ◌+◌, ◌^◌, ◌<◌, [], List, ℕ, None, IfOk, OnOk, OnErr, length};
 ghost use Rattle.message_codec.specs.declared.messages.Msg.{Msg as Message};
 ghost use Rattle.message_codec.specs.Streams.{frames_of};
 ghost use Rattle.message_reader.specs.Representation.{Represents, pending_at};
@@ -72,6 +72,7 @@ impl MessageReader {
     pub fn new(alloc: Global, role: Role) -> MessageReader
         ensures represents { Represents result [] [] }
         ensures role { result.role ≡ role }
+        ensures fine { result.bad ≡ None }
     {
         MessageReader {
             alloc,

@@ -1,9 +1,9 @@
-use Rattle.std.proofs.Common.{refl}
-use Rattle.client_core.proofs.Going.{kept_over, breaks_same}
+use Rattle.std.proofs.Common.{Ok, Err, refl}
+use Rattle.client_core.proofs.Streams.{grows}
 use Rattle.client_core.proofs.client.ClientCore.bytes.Goals as goal
 
-pub returns-in-Some-clause-ok : goal.returns-in-Some-clause-ok
-returns-in-Some-clause-ok c = λ messages rest front k. kept_over c.args.self.now _ c.in-Some.field-0 messages rest c.args.piece.now front c.in-Some.is refl refl refl refl refl k
+pub returns-in-Ok-clause-hears : goal.returns-in-Ok-clause-hears
+returns-in-Ok-clause-hears c = λ none. grows c.args.self.now _ (Ok c.in-Ok.done) c.args.piece.now none refl c.in-Ok.ensures.takes
 
-pub returns-in-Err-clause-err : goal.returns-in-Err-clause-err
-returns-in-Err-clause-err c = λ messages rest front k. breaks_same c.take_all.new.self _ messages rest c.args.piece.now front refl (c.in-Err.ensures.err messages rest front k)
+pub returns-in-Err-clause-hears : goal.returns-in-Err-clause-hears
+returns-in-Err-clause-hears c = λ none. grows c.args.self.now _ (Err c.in-Err.field-0) c.args.piece.now none refl c.in-Err.ensures.takes
