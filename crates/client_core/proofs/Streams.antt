@@ -11,9 +11,9 @@ use Rattle.message_reader.specs.declared.reader.BadFrame.{BadFrame}
 use Rattle.message_reader.specs.Roles.{reader_of}
 use Rattle.message_reader.specs.ReaderParts.{ReaderParts}
 use Rattle.message_reader.specs.Representation.{Represents, pending_at}
-use Rattle.message_reader.specs.Steps.{Extends, GivesMessage, GivesNone}
+use Rattle.message_reader.specs.Steps.{Extends, partial_at, GivesMessage, GivesNone}
 use Rattle.message_reader.specs.Endings.{Outcome, Stopped, Failed, outcome}
-use Rattle.message_reader.proofs.Completing.{same_rest}
+use Rattle.message_reader.proofs.Completing.{partial_is}
 use Rattle.message_reader.proofs.Consuming as reading
 use Rattle.client_core.specs.declared.client_end.ClientEnd.{ClientEnd}
 use Rattle.client_core.specs.declared.client_end.ClientEnd.TheVariants as end
@@ -24,7 +24,7 @@ use Rattle.client_core.specs.declared.printer.Printer.{Printer}
 use Rattle.client_core.specs.Hearing.{fresh, client}
 use Rattle.client_core.specs.Showing.{Shows, Hears, ShowsOn, Clears}
 use Rattle.client_core.specs.Ends.{stop_of, end_at, end_by, heard_of, end_of, IsHeard}
-use Rattle.client_core.specs.Kept.{IsOpen, Kept, Grows, Heeds, end_after, Takes, IsOfStream, partial_at}
+use Rattle.client_core.specs.Kept.{Kept, Grows, Heeds, end_after, Takes, IsOfStream}
 use Rattle.client_core.proofs.Screens.{client-more}
 
 -- ---- between two messages
@@ -177,16 +177,8 @@ fresh_client r p represents fine shows = record {
 pub cleared : (r : ReaderParts) (p p' : Printer) (ended : Option ClientEnd) (stream : List ℕ) (messages : List Msg) (front : List ℕ) → Clears p p' → Kept r p ended stream messages front → Kept r p' ended stream messages (front ++ p.lines.items)
 cleared r p p' ended stream messages front clears k = record { verdict = k.verdict; heard = k.heard; shows = clears (client messages) front k.shows; open_at = k.open_at; total = k.total }
 
--- what is pending after the messages given is what is left of the verdict
-pub partial_is : (r : ReaderParts) (p : Printer) (ended : Option ClientEnd) (stream : List ℕ) (messages : List Msg) (front : List ℕ) (found : Option ℕ) → ended ≡ None → (k : Kept r p ended stream messages front) → ((stream : List ℕ) (messages : List Msg) → (h : Represents r stream messages) → found ≡ pending_at r.bad (length (frames_of messages)) h.rest) → found ≡ partial_at k.verdict
-partial_is r p ended stream messages front found none k is =
-    let at = k.open_at none in
-    let v = k.verdict in
-    let rest : at.represents.rest ≡ v.rest = same_rest v.messages stream at.represents.rest v.rest at.represents.stream_is v.stream_is in
-    is stream v.messages at.represents
-    ∙ ap (λ (b : Option BadFrame). pending_at b (length (frames_of v.messages)) at.represents.rest) at.fine
-    ∙ ap (pending_at None (length (frames_of v.messages))) rest
-    ∙ ap (λ (n : ℕ). pending_at None n v.rest) (sym v.place_is)
+pub pending_is : (r : ReaderParts) (p : Printer) (ended : Option ClientEnd) (stream : List ℕ) (messages : List Msg) (front : List ℕ) (found : Option ℕ) → ended ≡ None → (k : Kept r p ended stream messages front) → ((stream : List ℕ) (messages : List Msg) → (h : Represents r stream messages) → found ≡ pending_at r.bad (length (frames_of messages)) h.rest) → found ≡ partial_at k.verdict
+pending_is r p ended stream messages front found none k is = partial_is r (reader_of r.role) stream k.verdict (k.open_at none) found is
 
 pub grows : (core new : ClientCore) (answer : Result (Option ClientEnd) OutOfMemory) (piece : List ℕ) → core.done ≡ None → new.done ≡ end_after answer → Takes core.reader new.reader core.printer new.printer answer piece → Grows core new piece
 grows core new answer piece none done t = record {

@@ -7,7 +7,7 @@ use Rattle.message_codec.specs.Streams.{Reader}
 use Rattle.message_codec.specs.Verdicts.{Verdict}
 use Rattle.message_reader.specs.Roles.{reader_of}
 use Rattle.message_reader.specs.ReaderParts.{ReaderParts}
-use Rattle.message_reader.specs.Representation.{Represents, pending_at}
+use Rattle.message_reader.specs.Representation.{IsOpen}
 use Rattle.held_inputs.specs.Line.{line_of}
 use Rattle.held_inputs.specs.Balanced.{Balanced, ClearAtLeaves}
 use Rattle.client_core.specs.declared.client_end.ClientEnd.{ClientEnd}
@@ -18,11 +18,6 @@ use Rattle.client_core.specs.declared.stop.Stop.{Stop}
 use Rattle.client_core.specs.Hearing.{client, all_lines}
 use Rattle.client_core.specs.Showing.{Shows, Hears, ShowsOn}
 use Rattle.client_core.specs.Ends.{stop_of, end_at, IsHeard}
-
--- the reader gave all the verdict's messages, and stands at less than a frame
-pub record IsOpen (r : ReaderParts) (stream : List ℕ) (messages : List Msg) : Type 0 where
-  pub represents : Represents r stream messages
-  pub fine : r.bad ≡ None
 
 -- after this stream, the client has heard these messages and has ended so; what was printed of them and cleared stands in front of its lines
 pub record Kept (r : ReaderParts) (p : Printer) (done : Option ClientEnd) (stream : List ℕ) (messages : List Msg) (front : List ℕ) : Type 0 where
@@ -68,10 +63,6 @@ ClearsLines old new = (stream : List ℕ) (messages : List Msg) (front : List �
 -- the lines that were printed and not cleared
 abbrev pub lines_in : ClientCore → List ℕ
 lines_in core = core.printer.lines.items
-
--- where a frame begins of which some bytes have come and not all
-abbrev pub partial_at : {reader : Reader} {stream : List ℕ} → Verdict reader stream → Option ℕ
-partial_at verdict = pending_at None verdict.place verdict.rest
 
 -- the bytes are the lines of a client that ended after these messages: every key and every mouse button went up, one up for each down, and nothing was down where the cursor left
 pub record Released (messages : List Msg) (bytes : List ℕ) : Type 0 where

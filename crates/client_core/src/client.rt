@@ -21,8 +21,8 @@ pub struct ClientCore {
 }
 
 impl ClientCore {
-    ghost use Rattle.client_core.specs.declared.client_end.ClientEnd.{ClientEnd as Ending};
-    ghost use Rattle.client_core.specs.Kept.{Stands, Grows, ClearsLines, EndsReleased, partial_at, lines_in};
+    ghost use Rattle.message_reader.specs.Steps.{partial_at};
+    ghost use Rattle.client_core.specs.Kept.{Stands, Grows, ClearsLines, EndsReleased, lines_in};
 
     /// Creates the client of injection: it hears every message of a server, sends nothing, and no moment
     /// counts. It takes no memory yet.

@@ -1,5 +1,5 @@
 -- The verdict on a whole stream, of which some messages were given.
-use Rattle.std.proofs.Common.{◌≡◌, ℕ, suc, List, [], ◌++◌, ◌∷◌, length, drop, refl, sym, ap, subst, ◌∙◌, append_assoc, arith}
+use Rattle.std.proofs.Common.{◌≡◌, ℕ, suc, List, [], ◌++◌, ◌∷◌, length, drop, Option, None, refl, sym, ap, subst, ◌∙◌, append_assoc, arith}
 use Rattle.std.proofs.lemmas.List.{drop_at}
 use Rattle.std.proofs.lemmas.List.Concat.{flat_map-append}
 use Rattle.message_codec.specs.declared.messages.Msg.{Msg}
@@ -8,9 +8,11 @@ use Rattle.message_codec.specs.Verdicts.{Verdict}
 use Rattle.message_codec.proofs.Readers.{all-IsBytes}
 use Rattle.message_codec.proofs.HasVerdict.{Follows, follows}
 use Rattle.message_codec.proofs.OneVerdict.{all_good-append}
+use Rattle.message_reader.specs.declared.reader.BadFrame.{BadFrame}
 use Rattle.message_reader.specs.Roles.{reader_of}
 use Rattle.message_reader.specs.ReaderParts.{ReaderParts}
-use Rattle.message_reader.specs.Representation.{Represents}
+use Rattle.message_reader.specs.Representation.{Represents, IsOpen, pending_at}
+use Rattle.message_reader.specs.Steps.{partial_at}
 use Rattle.message_reader.proofs.Stepping.{bytes-append}
 
 -- bytes at the end of bytes
@@ -55,3 +57,11 @@ pub unfed : (r : ReaderParts) (stream piece : List ℕ) (messages : List Msg) �
 unfed r stream piece messages small h =
     let rest : AreBytes h.rest = bytes-after (frames_of messages) h.rest (subst AreBytes h.stream_is h.bytes) in
     completes (reader_of r.role) messages (h.rest ++ piece) (stream ++ piece) h.good (bytes-append h.rest piece rest small) (ap (λ (t : List ℕ). t ++ piece) h.stream_is ∙ append_assoc (frames_of messages) h.rest piece)
+
+-- what is pending after the messages of a verdict is what is left of it
+pub partial_is : (r : ReaderParts) (reader : Reader) (stream : List ℕ) (v : Verdict reader stream) → IsOpen r stream v.messages → (found : Option ℕ) → ((stream : List ℕ) (messages : List Msg) → (h : Represents r stream messages) → found ≡ pending_at r.bad (length (frames_of messages)) h.rest) → found ≡ partial_at v
+partial_is r reader stream v at found is =
+    let h = at.represents in
+    let n : ℕ = length (frames_of v.messages) in
+    is stream v.messages h ∙ ap (λ (b : Option BadFrame). pending_at b n h.rest) at.fine
+    ∙ ap (pending_at None n) (same_rest v.messages stream h.rest v.rest h.stream_is v.stream_is) ∙ ap (λ (m : ℕ). pending_at None m v.rest) (sym v.place_is)

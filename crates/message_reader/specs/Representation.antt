@@ -23,6 +23,11 @@ pub record Represents (r : ReaderParts) (stream : List ℕ) (messages : List Msg
   pub place : r.framer.given ≡ length (frames_of messages)
   pub stands : StandsAt r r.bad messages rest
 
+-- it met no bad frame
+pub record IsOpen (r : ReaderParts) (stream : List ℕ) (messages : List Msg) : Type 0 where
+  pub represents : Represents r stream messages
+  pub fine : r.bad ≡ None
+
 -- the offset of the first byte that is part of no message given; none where there is no such byte, or after a bad frame
 abbrev pub pending_at : Option BadFrame → ℕ → List ℕ → Option ℕ
 pending_at (Some bad) place rest = None

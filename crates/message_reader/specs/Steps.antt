@@ -10,7 +10,7 @@ use Rattle.message_reader.specs.declared.reader.ReadStep.{ReadStep}
 use Rattle.message_reader.specs.declared.reader.ReadStep.TheVariants as step
 use Rattle.message_reader.specs.Roles.{reader_of}
 use Rattle.message_reader.specs.ReaderParts.{ReaderParts}
-use Rattle.message_reader.specs.Representation.{Represents}
+use Rattle.message_reader.specs.Representation.{Represents, pending_at}
 
 -- a piece was put at the end of the stream
 pub record Extends (old new : ReaderParts) (piece : List ℕ) : Type 0 where
@@ -21,6 +21,10 @@ pub record Extends (old new : ReaderParts) (piece : List ℕ) : Type 0 where
 -- the bad frame of a verdict, with its place
 abbrev pub bad_frame : {reader : Reader} {stream : List ℕ} → Verdict reader stream → Option BadFrame
 bad_frame verdict = option_map (λ (why : Reason). record { place = verdict.place; reason = why }) verdict.bad
+
+-- where a frame begins of which some bytes have come and not all
+abbrev pub partial_at : {reader : Reader} {stream : List ℕ} → Verdict reader stream → Option ℕ
+partial_at verdict = pending_at None verdict.place verdict.rest
 
 -- the verdict on the stream has these messages, and then this bad frame or less than a frame
 pub record Concludes (reader : Reader) (stream : List ℕ) (messages : List Msg) (bad : Option BadFrame) : Type 0 where

@@ -1,6 +1,7 @@
 -- What a file with a configuration decides.
 use Rattle.std.proofs.Common.{◌≡◌, ℕ, zero, suc, ◌<◌, ◌≤◌, List, length, Result, Ok, Err, Option, Some, refl, ap, sym, subst, ◌∙◌, inl, inr, arith}
 use Rattle.share_base.specs.Told.{after}
+use Rattle.share_base.specs.Writing.{SinkState}
 use Rattle.config_text.specs.declared.faults.ConfigKind.{ConfigKind}
 use Rattle.config_text.specs.declared.faults.ConfigRefusal.{ConfigRefusal}
 use Rattle.config_text.specs.Configurations.{Configuration}
@@ -48,11 +49,11 @@ too_long P file h long = omega (arith, h.within, ap length h.is_file, long)
 
 -- ---- each kind of file
 
-pub accepted_is_printed : (file : List ℕ) (config : Configuration) (end : Status) (old new : Option (List ℕ)) → length file ≤ config_limit → Accepts file config → Checks end (Some file) old new → IsDecided end
-    → (end ≡ status.Ok) × (new ≡ after old (normal config))
+pub accepted_is_printed : (file : List ℕ) (config : Configuration) (end : Status) (old new : SinkState) → length file ≤ config_limit → Accepts file config → Checks end (Some file) old new → IsDecided end
+    → (end ≡ status.Ok) × (new.taken ≡ after old.taken (normal config))
 accepted_is_printed file config status.Ok old new fits a h d =
     let same = same_config file h.0 config (holds_of (λ text. Accepts text h.0) file h.1) a in
-    (refl, h.2 ∙ ap (λ (c : Configuration). after old (normal c)) same)
+    (refl, h.2 ∙ ap (λ (c : Configuration). after old.taken (normal c)) same)
 accepted_is_printed file config (status.BadConfig line column kind) old new fits a (inl r, same) d =
     absurd (not_both file config (refused line column kind) a (holds_of (λ text. Refuses text (refused line column kind)) file r))
 accepted_is_printed file config (status.BadConfig line column kind) old new fits a (inr b, same) d = absurd (omega (arith, b.1, fits))
@@ -61,8 +62,8 @@ accepted_is_printed file config status.WriteFault old new fits a h d = absurd d
 accepted_is_printed file config status.OutOfMemory old new fits a h d = absurd d
 accepted_is_printed file config _ old new fits a h d = absurd h.0
 
-pub refused_is_said : (file : List ℕ) (r : ConfigRefusal) (end : Status) (old new : Option (List ℕ)) → length file ≤ config_limit → Refuses file r → Checks end (Some file) old new → IsDecided end
-    → (end ≡ bad_config r) × (new ≡ old)
+pub refused_is_said : (file : List ℕ) (r : ConfigRefusal) (end : Status) (old new : SinkState) → length file ≤ config_limit → Refuses file r → Checks end (Some file) old new → IsDecided end
+    → (end ≡ bad_config r) × (new.taken ≡ old.taken)
 refused_is_said file r status.Ok old new fits x h d = absurd (not_both file h.0 r (holds_of (λ text. Accepts text h.0) file h.1) x)
 refused_is_said file r (status.BadConfig line column kind) old new fits x (inl y, same) d =
     (ap bad_config (same_refusal file (refused line column kind) r (holds_of (λ text. Refuses text (refused line column kind)) file y) x), same)
@@ -72,7 +73,7 @@ refused_is_said file r status.WriteFault old new fits x h d = absurd d
 refused_is_said file r status.OutOfMemory old new fits x h d = absurd d
 refused_is_said file r _ old new fits x h d = absurd h.0
 
-pub too_big_is_said : (file : List ℕ) (end : Status) (old new : Option (List ℕ)) → config_limit < length file → Checks end (Some file) old new → IsDecided end → (end ≡ bad_config too_big) × (new ≡ old)
+pub too_big_is_said : (file : List ℕ) (end : Status) (old new : SinkState) → config_limit < length file → Checks end (Some file) old new → IsDecided end → (end ≡ bad_config too_big) × (new.taken ≡ old.taken)
 too_big_is_said file status.Ok old new long h d = absurd (too_long (λ text. Accepts text h.0) file h.1 long)
 too_big_is_said file (status.BadConfig line column kind) old new long (inl y, same) d = absurd (too_long (λ text. Refuses text (refused line column kind)) file y long)
 too_big_is_said file (status.BadConfig line column kind) old new long (inr b, same) d = (ap bad_config b.0, same)

@@ -1,98 +1,85 @@
 -- The client of injection: how its calls serve a command.
-use Rattle.std.proofs.Common.{◌≡◌, ℕ, Bool, List, [], ◌∷◌, ◌++◌, length, Option, Some, None, Result, Ok, Err, refl, sym, ap, ◌∙◌, inl, inr}
-use Rattle.std.specs.Prelude.{OnOk, OnErr}
-use Rattle.std.specs.List.{flat_map, AllByRecursion}
+use Rattle.std.proofs.Common.{◌≡◌, ℕ, List, ◌++◌, length, Option, Some, None, refl, sym, ap, subst, ◌∙◌}
+use Rattle.std.specs.List.{flat_map}
 use Rattle.std.specs.Option.{option_map}
 use Rattle.std.proofs.lemmas.Grind.{flat_map-append}
 use Rattle.std.proofs.lemmas.List.{append_cancel_left}
 use Rattle.share_base.specs.Told.{after}
-use Rattle.share_base.specs.declared.reason.Reason.TheVariants as reason
+use Rattle.share_base.specs.Reading.{SourceState}
+use Rattle.share_base.specs.Writing.{SinkState}
 use Rattle.message_codec.specs.declared.messages.Msg.{Msg}
-use Rattle.message_codec.specs.Streams.{frames_of}
+use Rattle.message_reader.specs.Roles.{reader_of}
+use Rattle.message_reader.specs.Steps.{partial_at}
 use Rattle.held_inputs.specs.Line.{line_of}
 use Rattle.held_inputs.specs.Down.{releases}
 use Rattle.client_core.specs.declared.client_end.ClientEnd.{ClientEnd}
-use Rattle.client_core.specs.declared.client_end.LostCause.TheVariants as lost
 use Rattle.client_core.specs.declared.client.ClientCore.{ClientCore}
+use Rattle.client_core.specs.Ends.{IsHeard}
 use Rattle.client_core.specs.Hearing.{client, all_lines}
-use Rattle.client_core.specs.Kept.{Heard, Kept, Grows, Breaks, begun_at}
+use Rattle.client_core.specs.Kept.{Stands, Grows, ClearsLines, EndsReleased, lines_in}
 use Rattle.client_core.proofs.Screens as screens
 use Rattle.synergy_share.specs.declared.status.Status.{Status}
 use Rattle.synergy_share.specs.declared.status.Status.TheVariants as status
-use Rattle.synergy_share.specs.Ways.{injecting, status_of}
-use Rattle.synergy_share.specs.Begins.{GoesOn}
-use Rattle.synergy_share.specs.Cores.{Further, EndsHere}
+use Rattle.synergy_share.specs.Ways.{Way, injecting}
+use Rattle.synergy_share.specs.Endings.{status_of, decided, printed_of}
+use Rattle.synergy_share.specs.Cores.{IsDone, Feeds, Clears, EndsHere, EndsInput, AddsLast}
 use Rattle.synergy_share.specs.Commands.{Writes, Reads, Balances, Releases}
-use Rattle.synergy_share.specs.Injecting.{going_of}
+use Rattle.synergy_share.specs.Injecting.{Injected, done_so}
+use Rattle.synergy_share.proofs.InputEnds.{end_for, ends_so}
 
-all-suffix : {A : Type 0} (P : A → Type 0) (xs ys : List A) → AllByRecursion P (xs ++ ys) → AllByRecursion P ys
-all-suffix P [] ys all = all
-all-suffix P (x ∷ xs) ys all = all-suffix P xs ys all.1
+-- a client that goes on has no end
+pub goes_on : (done : Option ClientEnd) → option_map status_of done ≡ None → done ≡ None
+goes_on None none = refl
+goes_on (Some e) none = absurd cc
 
--- ---- a piece
+pub feeds : (core new : ClientCore) (piece : List ℕ) → Grows core new piece → Feeds Injected core new piece
+feeds core new piece g w stream messages taken k =
+    let (more, stands) = g.hears stream messages taken k.stands in
+    (more, record { role_is = g.role ∙ k.role_is; way_is = k.way_is; stands = stands })
 
-grows : (core : ClientCore) (messages : List Msg) (rest piece taken : List ℕ) → Grows core messages rest piece taken → (f : Further injecting rest piece) × Kept core (messages ++ f.more) f.rest' taken
-grows core messages rest piece taken g = (
-  record { more = g.more; rest' = g.left; begins = record { stream_is = g.stream_is; going = all-suffix (GoesOn injecting) messages g.more (going_of [] (messages ++ g.more) g.kept.heard.going.good g.kept.heard.going.goes) } },
-  g.kept,
-)
+pub clears : (core new : ClientCore) → new.reader ≡ core.reader → ClearsLines core new → Clears Injected core new (lines_in core)
+clears core new same cleared w stream messages taken k = record {
+  role_is = ap (λ r. r.role) same ∙ k.role_is;
+  way_is = k.way_is;
+  stands = cleared stream messages taken k.stands;
+}
 
-breaks : (core : ClientCore) (messages : List Msg) (rest piece taken : List ℕ) → Breaks core messages rest piece taken → (f : Further injecting rest piece) × Heard core (messages ++ f.more) taken
-breaks core messages rest piece taken b = (
-  record { more = b.more; rest' = b.left; begins = record { stream_is = b.stream_is; going = all-suffix (GoesOn injecting) messages b.more (going_of [] (messages ++ b.more) b.heard.going.good b.heard.going.goes) } },
-  b.heard,
-)
-
-pub fed_ok : {A E : Type 0} (r : Result A E) (old new : ClientCore) (piece : List ℕ) → OnOk r ((messages : List Msg) (rest taken : List ℕ) → Kept old messages rest taken → Grows new messages rest piece taken)
-    → OnOk r ((messages : List Msg) (rest taken : List ℕ) → Kept old messages rest taken → (f : Further injecting rest piece) × Kept new (messages ++ f.more) f.rest' taken)
-fed_ok (Ok x) old new piece all = λ messages rest taken k. grows new messages rest piece taken (all messages rest taken k)
-fed_ok (Err e) old new piece all = tt
-
-pub fed_err : {A E : Type 0} (r : Result A E) (old new : ClientCore) (piece : List ℕ) → OnErr r ((messages : List Msg) (rest taken : List ℕ) → Kept old messages rest taken → Breaks new messages rest piece taken)
-    → OnErr r ((messages : List Msg) (rest taken : List ℕ) → Kept old messages rest taken → (f : Further injecting rest piece) × Heard new (messages ++ f.more) taken)
-fed_err (Ok x) old new piece all = tt
-fed_err (Err e) old new piece all = λ messages rest taken k. breaks new messages rest piece taken (all messages rest taken k)
-
--- ---- the input's end
-
-pub inside : (done : Option ClientEnd) (messages : List Msg) (rest : List ℕ) (place : ℕ) → option_map status_of done ≡ None → Some place ≡ begun_at done messages rest → EndsHere injecting (status.BadFrames place reason.Cut) (length (frames_of messages)) rest
-inside (Some e) messages rest place goes begun = absurd cc
-inside None messages [] place goes begun = absurd cc
-inside None messages (byte ∷ bytes) place goes begun = (tt, inr ((λ none. some_byte byte bytes none), ap (λ (n : ℕ). status.BadFrames n reason.Cut) (some_is place (length (frames_of messages)) begun)))
-  where
-    some_is : (x y : ℕ) → Some x ≡ Some y → x ≡ y
-    some_is x y same = cc
-
-    some_byte : (byte : ℕ) (bytes : List ℕ) → byte ∷ bytes ≡ [] → ⊥
-    some_byte byte bytes none = cc
-
-pub between : (done : Option ClientEnd) (messages : List Msg) (rest : List ℕ) → option_map status_of done ≡ None → None ≡ begun_at done messages rest → EndsHere injecting (status.Lost lost.Ended) (length (frames_of messages)) rest
-between (Some e) messages rest goes begun = absurd cc
-between None messages [] goes begun = (tt, inl (refl, refl))
-between None messages (byte ∷ bytes) goes begun = absurd cc
+-- the stream ends
+pub ends_input : (core : ClientCore) (found : Option ℕ) (end : Status) → core.done ≡ None → ((stream : List ℕ) (messages : List Msg) (front : List ℕ) → (s : Stands core stream messages front) → found ≡ partial_at s.verdict) → end ≡ end_for injecting found → EndsInput Injected core end
+ends_input core found end none pending is w stream messages taken k =
+    let s = k.stands in
+    let v = s.verdict in
+    let heard = done_so (reader_of core.reader.role) stream messages None v (subst (λ (d : Option ClientEnd). IsHeard d v messages) none s.heard) in
+    subst (λ (x : Way). EndsHere x end stream messages) (sym k.way_is)
+    (ends_so injecting (reader_of core.reader.role) stream messages found end (ap reader_of k.role_is) v (sym heard.0) heard.1 (pending stream messages taken s) is)
 
 -- ---- the last lines
 
-pub last_are : (messages : List Msg) (taken lines result : List ℕ) → taken ++ lines ≡ flat_map line_of (client messages).lines → (taken ++ lines) ++ result ≡ flat_map line_of (all_lines messages) → result ≡ flat_map line_of (releases (client messages).lines)
+last_are : (messages : List Msg) (taken lines result : List ℕ) → taken ++ lines ≡ flat_map line_of (client messages).lines → (taken ++ lines) ++ result ≡ flat_map line_of (all_lines messages) → result ≡ flat_map line_of (releases (client messages).lines)
 last_are messages taken lines result shown all =
     append_cancel_left (taken ++ lines) result (flat_map line_of (releases (client messages).lines))
     (all ∙ flat_map-append line_of (client messages).lines (releases (client messages).lines) ∙ ap (λ (t : List ℕ). t ++ flat_map line_of (releases (client messages).lines)) (sym shown))
 
+pub adds_last : (core : ClientCore) (result : List ℕ) → EndsReleased core result → AddsLast Injected core result
+adds_last core result released w stream messages taken k =
+    let shows = k.stands.shows in
+    subst (λ (x : Way). result ≡ x.last messages) (sym k.way_is) (last_are messages taken (lines_in core) result shows.printed (released messages taken shows).printed)
+
 -- ---- what was written is balanced
 
-balances : (messages : List Msg) (old new : Option (List ℕ)) → new ≡ after old (flat_map line_of (client messages).lines ++ flat_map line_of (releases (client messages).lines)) → Balances old new
+balances : (messages : List Msg) (old new : SinkState) → new.taken ≡ after old.taken (flat_map line_of (client messages).lines ++ flat_map line_of (releases (client messages).lines)) → Balances old new
 balances messages old new written =
     let r = screens.released messages (flat_map line_of (all_lines messages)) refl in
     record {
       lines = all_lines messages;
-      written = written ∙ ap (after old) (sym (flat_map-append line_of (client messages).lines (releases (client messages).lines)));
+      written = written ∙ ap (after old.taken) (sym (flat_map-append line_of (client messages).lines (releases (client messages).lines)));
       balanced = r.balanced;
       leaves = r.leaves;
     }
 
-by_end : (end : Status) (messages : List Msg) (old new : Option (List ℕ)) → Writes injecting end messages old new → Releases end old new
+by_end : (end : Status) (messages : List Msg) (old new : SinkState) → Writes injecting end messages old new → Releases end old new
 by_end status.WriteFault messages old new w = tt
 by_end _ messages old new w = balances messages old new w
 
-pub releases_all : (end : Status) (left left' old new : Option (List ℕ)) (ended : Option Bool) → Reads injecting end left left' ended old new → Releases end old new
-releases_all end left left' old new ended r = by_end end r.messages old new r.writes
+pub releases_all : (end : Status) (input input' : SourceState) (old new : SinkState) → Reads injecting end input input' old new → Releases end old new
+releases_all end input input' old new r = by_end end r.messages old new r.writes

@@ -1,8 +1,7 @@
 pub mod SingleWords
-pub mod Streams
-pub mod Showing
-pub mod Runs
-pub mod OneSplit
+pub mod InputEnds
+pub mod Shown
 pub mod Injection
+pub mod Runs
 pub mod OneEnd
 pub mod Checked

@@ -1,25 +1,31 @@
 -- Running a command over what is read: where it stands before a read, and how each end follows.
-use Rattle.std.proofs.Common.{◌≡◌, ◌≢◌, ℕ, ◌+◌, ◌-◌, ◌^◌, ◌<◌, ◌≤◌, Bool, Some, None, List, [], ◌++◌, length, take, Option, min, ◌⊎◌, refl, sym, ap, subst, ◌∙◌, arith, inl, inr, append_assoc}
+use Rattle.std.proofs.Common.{◌≡◌, ◌≢◌, ℕ, ◌+◌, ◌-◌, ◌^◌, ◌<◌, ◌≤◌, Bool, true, false, cond, Some, None, List, [], ◌∷◌, ◌++◌, length, take, Option, min, ◌⊎◌, refl, sym, ap, subst, ◌∙◌, arith, inl, inr, append_assoc}
 use Rattle.std.proofs.lemmas.List.{length-append, append-nil, length-take, take_all, take-take, take-append-le}
+use Rattle.std.specs.Option.{option_map}
 use Rattle.std.proofs.lemmas.Bool.{cases_lt}
+use Rattle.std.proofs.lemmas.Option.{same_Some}
 use Rattle.std.proofs.Math.Seq.{take-append-add}
 use Rattle.share_base.specs.Counts.{Rises}
 use Rattle.share_base.specs.Told.{before, after, NoneLeft, IsSet, NotSet}
-use Rattle.share_base.specs.Reading.{ReadGives, ReadEnds}
+use Rattle.share_base.specs.Reading.{SourceState, ReadEnds, Reads as ReadsOne}
 use Rattle.share_base.specs.declared.source.SourceAnswer.TheVariants as answer
-use Rattle.share_base.specs.Writing.{TakesFront}
+use Rattle.share_base.specs.Writing.{SinkState, TakesFront, WritesAll}
 use Rattle.share_base.proofs.ToldLists.{after-after, after-nil, before-before, before-nil}
-use Rattle.wire_frames.specs.Framing.{IsPartial}
 use Rattle.message_codec.specs.declared.messages.Msg.{Msg}
-use Rattle.message_codec.specs.Streams.{body_limit, frames_of}
+use Rattle.message_codec.specs.Streams.{plain}
+use Rattle.message_codec.specs.Verdicts.{Verdict}
+use Rattle.message_reader.specs.Endings.{Outcome, Stopped, Failed, outcome, IsFront}
+use Rattle.client_core.specs.declared.client_end.LostCause.TheVariants as lost
+use Rattle.client_core.specs.declared.stop.Stop.{Stop}
+use Rattle.client_core.specs.declared.stop.Stop.TheVariants as stop
+use Rattle.synergy_share.specs.declared.commands.TheConstants.{INPUT_LIMIT}
 use Rattle.synergy_share.specs.declared.status.Status.{Status}
 use Rattle.synergy_share.specs.declared.status.Status.TheVariants as status
 use Rattle.synergy_share.specs.Ways.{Way}
-use Rattle.synergy_share.specs.Begins.{Begins, StopsAt}
-use Rattle.synergy_share.specs.Cores.{Printed, StandsAt, Keeps, Further, EndsHere, IsByBytes, Finishes}
-use Rattle.synergy_share.specs.Commands.{input_limit, EndsAt, by_frame, at_the_end, too_long, read_fault, write_fault, no_memory, all_lines, Writes, Reads, Stops}
+use Rattle.synergy_share.specs.Endings.{status_by, printed_of, decided, end_at}
+use Rattle.synergy_share.specs.Cores.{IsDone, Keeps, EndsHere, Finishes}
+use Rattle.synergy_share.specs.Commands.{counted, VerdictOn, AtEnd, EndsAt, by_bytes, at_the_end, too_long, read_fault, write_fault, no_memory, IsPrinted, all_lines, Writes, Reads, Stops}
 use Rattle.synergy_share.specs.Causes.{Causes, SourceCounts, SinkCounts}
-use Rattle.synergy_share.proofs.Streams.{begins_none, begins_fed}
 
 -- ---- pieces
 
@@ -41,143 +47,271 @@ take-piece limit n read buffer le fits =
 
 -- ---- before a read
 
--- what was read, its messages and its rest, and the lines that were written
-pub record Stands (w : Way) (total : ℕ) (left left' taken taken' : Option (List ℕ)) (messages : List Msg) (rest written : List ℕ) : Type 0 where
+-- what was read, the messages that were printed, and the lines that were written, where the core stands so for them
+pub record At (kept : List ℕ → List Msg → List ℕ → Type 0) (total : ℕ) (input input' : SourceState) (out out' : SinkState) : Type 0 where
   pub read : List ℕ
-  pub consumed : left ≡ before read left'
+  pub messages : List Msg
+  pub written : List ℕ
+  pub consumed : input.left ≡ before read input'.left
   pub total_is : total ≡ length read
-  pub begins : Begins w messages (take input_limit read) rest
-  pub taken_is : taken' ≡ after taken written
+  pub kept_is : kept (counted read) messages written
+  pub taken_is : out'.taken ≡ after out.taken written
 
-pub stands_new : (w : Way) (left taken : Option (List ℕ)) → Stands w 0 left left taken taken [] [] []
-stands_new w left taken = record {
+pub at_first : (kept : List ℕ → List Msg → List ℕ → Type 0) (input : SourceState) (out : SinkState) → kept [] [] [] → At kept 0 input input out out
+at_first kept input out k = record {
   read = [];
-  consumed = sym (before-nil left);
+  messages = [];
+  written = [];
+  consumed = sym (before-nil input.left);
   total_is = refl;
-  begins = begins_none w [];
-  taken_is = sym (after-nil taken);
+  kept_is = k;
+  taken_is = sym (after-nil out.taken);
 }
 
--- where the command stands before a read, in the words of its core
-pub record At (w : Way) (keeps : List Msg → List ℕ → List ℕ → Type 0) (total : ℕ) (left left' taken taken' : Option (List ℕ)) : Type 0 where
-  pub messages : List Msg
-  pub rest : List ℕ
-  pub written : List ℕ
-  pub kept : keeps messages rest written
-  pub stands : Stands w total left left' taken taken' messages rest written
-
--- a read gave so many bytes, of which so many count
-pub record Gives (left left' : Option (List ℕ)) (total n kept : ℕ) (buffer : List ℕ) : Type 0 where
-  pub gives : left ≡ before (take n buffer) left'
-  pub fits : n ≤ length buffer
-  pub within : total ≤ input_limit
-  pub kept_is : kept ≡ min n (input_limit - total)
-
--- its messages follow
-pub stands_read : (w : Way) (total n kept : ℕ) (buffer : List ℕ) (left l l' taken taken' : Option (List ℕ)) (messages : List Msg) (rest written : List ℕ) → Stands w total left l taken taken' messages rest written → Gives l l' total n kept buffer
-    → (f : Further w rest (take kept buffer)) → Stands w (total + n) left l' taken taken' (messages ++ f.more) f.rest' written
-stands_read w total n kept buffer left l l' taken taken' messages rest written s g f =
+-- a read gave so many bytes, of which so many count, and the core was fed them
+pub at_fed : (kept next : List ℕ → List Msg → List ℕ → Type 0) (total n few : ℕ) (buffer : List ℕ) (input l l' : SourceState) (out o : SinkState) → (a : At kept total input l out o) → ReadsOne (answer.Got n) buffer l l' → n ≤ length buffer → total ≤ INPUT_LIMIT → few ≡ min n (INPUT_LIMIT - total)
+    → ((stream : List ℕ) (messages : List Msg) (taken : List ℕ) → kept stream messages taken → (more : List Msg) × next (stream ++ take few buffer) (messages ++ more) taken)
+    → At next (total + n) input l' out o
+at_fed kept next total n few buffer input l l' out o a r fits within few-is fed =
     let piece : List ℕ = take n buffer in
-    let long : length piece ≡ n = omega (arith, length-take n buffer, g.fits) in
-    let few : min n (input_limit - length s.read) ≡ kept = omega (arith, g.kept_is, s.total_is) in
-    let stream : take input_limit (s.read ++ piece) ≡ take input_limit s.read ++ take kept buffer =
-    take-piece input_limit n s.read buffer (omega (arith, s.total_is, g.within)) g.fits ∙ ap (λ (m : ℕ). take input_limit s.read ++ take m buffer) few in
-    record {
-      read = s.read ++ piece;
-      consumed = s.consumed ∙ ap (before s.read) g.gives ∙ before-before l' s.read piece;
-      total_is = omega (arith, s.total_is, long, length-append s.read piece);
-      begins = subst (λ (t : List ℕ). Begins w (messages ++ f.more) t f.rest') (sym stream) (begins_fed w messages (take input_limit s.read) rest (take kept buffer) s.begins f);
-      taken_is = s.taken_is;
+    let long : length piece ≡ n = omega (arith, length-take n buffer, fits) in
+    let same : min n (INPUT_LIMIT - length a.read) ≡ few = omega (arith, few-is, a.total_is) in
+    let stream : counted (a.read ++ piece) ≡ counted a.read ++ take few buffer =
+    take-piece INPUT_LIMIT n a.read buffer (omega (arith, a.total_is, within)) fits ∙ ap (λ (m : ℕ). counted a.read ++ take m buffer) same in
+    let (more, kept-next) = fed (counted a.read) a.messages a.written a.kept_is in record {
+      read = a.read ++ piece;
+      messages = a.messages ++ more;
+      written = a.written;
+      consumed = a.consumed ∙ ap (before a.read) r.gives ∙ before-before l'.left a.read piece;
+      total_is = omega (arith, a.total_is, long, length-append a.read piece);
+      kept_is = subst (λ (s : List ℕ). next s (a.messages ++ more) a.written) (sym stream) kept-next;
+      taken_is = a.taken_is;
     }
 
--- its lines were written
-pub stands_written : (w : Way) (total : ℕ) (left l taken taken' new : Option (List ℕ)) (messages : List Msg) (rest written lines shown : List ℕ) → Stands w total left l taken taken' messages rest written → shown ≡ lines → new ≡ after taken' shown
-    → Stands w total left l taken new messages rest (written ++ lines)
-stands_written w total left l taken taken' new messages rest written lines shown s shown-is all = record {
-  read = s.read;
-  consumed = s.consumed;
-  total_is = s.total_is;
-  begins = s.begins;
-  taken_is = all ∙ ap (after taken') shown-is ∙ ap (λ (o : Option (List ℕ)). after o lines) s.taken_is ∙ after-after taken written lines;
+-- its lines were written, and taken from it
+pub at_written : (kept next : List ℕ → List Msg → List ℕ → Type 0) (total : ℕ) (input l : SourceState) (out o o' : SinkState) (lines : List ℕ) → (a : At kept total input l out o) → o'.taken ≡ after o.taken lines
+    → ((stream : List ℕ) (messages : List Msg) (taken : List ℕ) → kept stream messages taken → next stream messages (taken ++ lines)) → At next total input l out o'
+at_written kept next total input l out o o' lines a all cleared = record {
+  read = a.read;
+  messages = a.messages;
+  written = a.written ++ lines;
+  consumed = a.consumed;
+  total_is = a.total_is;
+  kept_is = cleared (counted a.read) a.messages a.written a.kept_is;
+  taken_is = all ∙ ap (λ (t : Option (List ℕ)). after t lines) a.taken_is ∙ after-after out.taken a.written lines;
 }
 
--- the piece can be fed
-pub feed_fits : (w : Way) (lines : List ℕ) (done : Option Status) (fed total kept : ℕ) (buffer : List ℕ) (left l taken taken' : Option (List ℕ)) (messages : List Msg) (rest written : List ℕ) → Stands w total left l taken taken' messages rest written → Keeps w lines done fed messages rest written
-    → total ≤ input_limit → kept ≤ input_limit - total → fed + length (take kept buffer) < 2 ^ 63
-feed_fits w lines ended fed total kept buffer left l taken taken' messages rest written s k within few =
-    omega (arith, k.total_is, s.total_is, length-take kept buffer, ap length (sym (take_all input_limit s.read (omega (arith, s.total_is))) ∙ s.begins.stream_is), length-append (frames_of messages) rest)
+-- ---- ends that bytes decide
 
--- while it goes on, less than a frame is left
-pub partial_of : (w : Way) (lines : List ℕ) (done : Option Status) (fed : ℕ) (messages : List Msg) (rest written : List ℕ) → done ≡ None → Keeps w lines done fed messages rest written → IsPartial body_limit rest
-partial_of w lines done fed messages rest written none k = by_done done none k.stands
+-- neither a fault nor want of memory
+abbrev pub IsByBytes : Status → Type 0
+IsByBytes status.Ok = Unit {0}
+IsByBytes (status.BadFrames place why) = Unit {0}
+IsByBytes (status.NotYet place) = Unit {0}
+IsByBytes (status.Lost cause) = Unit {0}
+IsByBytes (status.Refused which) = Unit {0}
+IsByBytes _ = ⊥
+
+outcome_by_bytes : (to : Outcome Stop) → IsByBytes (status_by to)
+outcome_by_bytes (Stopped place stop.Bye) = tt
+outcome_by_bytes (Stopped place (stop.Refused why)) = tt
+outcome_by_bytes (Stopped place stop.NotYet) = tt
+outcome_by_bytes (Failed bad) = tt
+
+pub decided_by_bytes : (w : Way) (stream : List ℕ) (v : Verdict (plain w.sender) stream) (end : Status) → decided w v ≡ Some end → IsByBytes end
+decided_by_bytes w stream v end is = by_outcome (outcome w.ends v) is
   where
-    by_done : (done : Option Status) → done ≡ None → StandsAt w done (length (frames_of messages)) rest → IsPartial body_limit rest
-    by_done None none stands = stands
-    by_done (Some end) none stands = absurd cc
+    by_outcome : (o : Option (Outcome Stop)) → option_map status_by o ≡ Some end → IsByBytes end
+    by_outcome None is = absurd cc
+    by_outcome (Some to) is = subst IsByBytes (same_Some (status_by to) end is) (outcome_by_bytes to)
 
--- ---- ends
+pub input_by_bytes : (w : Way) (place : ℕ) (rest : List ℕ) → IsByBytes (end_at w place rest)
+input_by_bytes w place (byte ∷ bytes) = tt
+input_by_bytes w place [] = cases w.waits
+  where
+    cases : (waits : Bool) → IsByBytes (cond waits (status.Lost lost.Ended) status.Ok)
+    cases true = tt
+    cases false = tt
+
+pub fine_by_bytes : (end : Status) → IsByBytes end → end ≢ status.WriteFault
+fine_by_bytes status.Ok by same = absurd cc
+fine_by_bytes (status.BadFrames place why) by same = absurd cc
+fine_by_bytes (status.NotYet place) by same = absurd cc
+fine_by_bytes (status.Lost cause) by same = absurd cc
+fine_by_bytes (status.Refused which) by same = absurd cc
+fine_by_bytes _ by same = by
+
+memory_is_no_fault : status.OutOfMemory ≡ status.WriteFault → ⊥
+memory_is_no_fault same = cc
+
+prints_all : (end : Status) (messages all : List Msg) → IsByBytes end → messages ≡ all → IsPrinted end messages all
+prints_all status.Ok messages all by same = same
+prints_all (status.BadFrames place why) messages all by same = same
+prints_all (status.NotYet place) messages all by same = same
+prints_all (status.Lost cause) messages all by same = same
+prints_all (status.Refused which) messages all by same = same
+prints_all _ messages all by same = absurd by
+
+-- ---- what a core says of itself
+
+-- while it goes on, the verdict decides no end, and all its messages are printed
+goes_on : (w : Way) (stream : List ℕ) (done : Option Status) (v : Verdict (plain w.sender) stream) (messages : List Msg) → done ≡ None → IsDone w done v messages → (decided w v ≡ None) × (messages ≡ printed_of w v)
+goes_on w stream None v messages none h = (sym h.0, h.1)
+goes_on w stream (Some end) v messages none h = absurd cc
+
+-- an end of its own is decided by the verdict, or memory ran out
+abbrev HasEnded : (w : Way) {stream : List ℕ} → Status → Verdict (plain w.sender) stream → List Msg → Type 0
+HasEnded w end v messages = ((decided w v ≡ Some end) × (messages ≡ printed_of w v)) ⊎ ((end ≡ status.OutOfMemory) × IsFront messages (printed_of w v))
+
+has_ended : (w : Way) (stream : List ℕ) (done : Option Status) (end : Status) (v : Verdict (plain w.sender) stream) (messages : List Msg) → Some end ≡ done → IsDone w done v messages → HasEnded w end v messages
+has_ended w stream None end v messages is h = absurd cc
+has_ended w stream (Some status.OutOfMemory) end v messages is h = inr (same_Some end status.OutOfMemory is, h)
+has_ended w stream (Some x) end v messages is h = inl (sym (is ∙ h.0), h.1)
+
+pub feed_fits : (w : Way) (kept : List ℕ → List Msg → List ℕ → Type 0) (lines : List ℕ) (done : Option Status) (fed total few : ℕ) (buffer : List ℕ) (input l : SourceState) (out o : SinkState) → (a : At kept total input l out o) → ((stream : List ℕ) (messages : List Msg) (taken : List ℕ) → kept stream messages taken → Keeps w lines done fed stream messages taken)
+    → total ≤ INPUT_LIMIT → few ≤ INPUT_LIMIT - total → fed + length (take few buffer) < 2 ^ 63
+feed_fits w kept lines ended fed total few buffer input l out o a keeps within little =
+    let k = keeps (counted a.read) a.messages a.written a.kept_is in
+    omega (arith, k.total_is, a.total_is, length-take few buffer, ap length (take_all INPUT_LIMIT a.read (omega (arith, a.total_is))))
+
+-- that read is rightly made
+pub stops_here : (w : Way) (kept : List ℕ → List Msg → List ℕ → Type 0) (lines : List ℕ) (done : Option Status) (fed total : ℕ) (input l l' : SourceState) (out o : SinkState) → (a : At kept total input l out o) → ((stream : List ℕ) (messages : List Msg) (taken : List ℕ) → kept stream messages taken → Keeps w lines done fed stream messages taken)
+    → done ≡ None → NotSet l.ended → total ≤ INPUT_LIMIT → l'.left_before ≡ l.left → l'.ended_before ≡ l.ended → Stops w input l'
+stops_here w kept lines ended fed total input l l' out o a keeps none unset within left-before ended-before =
+    let k = keeps (counted a.read) a.messages a.written a.kept_is in
+    let v : Verdict (plain w.sender) (counted a.read) = k.prints.verdict in
+    let all : counted a.read ≡ a.read = take_all INPUT_LIMIT a.read (omega (arith, a.total_is)) in
+    let Goes : List ℕ → Type 0 = λ stream. (v : Verdict (plain w.sender) stream) × (decided w v ≡ None) in
+    let goes : Goes a.read = subst Goes all (v, (goes_on w (counted a.read) ended v a.messages none k.prints.ended).0) in record {
+      earlier = a.read;
+      consumed = a.consumed ∙ ap (before a.read) (sym left-before);
+      not_ended = subst NotSet (sym ended-before) unset;
+      within = omega (arith, a.total_is);
+      verdict = goes.0;
+      undecided = goes.1;
+    }
+
+-- ---- the lines at the end
 
 -- the lines that were written, and then a front of what follows them
 front_after : (written lines more : List ℕ) (t u v : Option (List ℕ)) → u ≡ after t written → TakesFront lines u v → TakesFront ((written ++ lines) ++ more) t v
 front_after written lines more t u v first second =
     let whole : (written ++ lines) ++ more ≡ written ++ (lines ++ more) = append_assoc written lines more in
-    let same : take second.0 (lines ++ more) ≡ take second.0 lines = front_of second.0 lines more second.1 in (
+    let same : take second.0 (lines ++ more) ≡ take second.0 lines = take-append-le second.0 lines more second.1 in (
       length written + second.0,
       omega (arith, second.1, length-append written lines, length-append (written ++ lines) more),
       second.2 ∙ ap (λ (o : Option (List ℕ)). after o (take second.0 lines)) first ∙ after-after t written (take second.0 lines)
           ∙ ap (after t) (ap (λ (x : List ℕ). written ++ x) (sym same) ∙ sym (take-append-add written (lines ++ more) second.0) ∙ ap (take (length written + second.0)) (sym whole)),
     )
-  where
-    front_of : (n : ℕ) (xs ys : List ℕ) → n ≤ length xs → take n (xs ++ ys) ≡ take n xs
-    front_of n xs ys le = take-append-le n xs ys le
 
--- writing the lines failed
-pub reads_write_fault : (w : Way) (lines shown : List ℕ) (total : ℕ) (left l' taken taken' new : Option (List ℕ)) (ended : Option Bool) (messages : List Msg) (rest written : List ℕ) → Stands w total left l' taken taken' messages rest written → Printed w lines messages written
-    → shown ≡ lines → TakesFront shown taken' new → Reads w status.WriteFault left l' ended taken new
-reads_write_fault w lines shown total left l' taken taken' new ended messages rest written s p shown-is front = record {
-  read = s.read;
-  consumed = s.consumed;
-  messages = messages;
-  rest = rest;
-  begins = s.begins;
-  ending = write_fault refl;
-  writes = subst (λ (t : List ℕ). TakesFront (t ++ w.last messages) taken new) p.lines_are
-      (front_after written lines (w.last messages) taken taken' new s.taken_is (subst (λ (x : List ℕ). TakesFront x taken' new) shown-is front));
-}
+front_of_all : (end : Status) (messages all : List Msg) → IsPrinted end messages all → IsFront messages all
+front_of_all status.WriteFault messages all h = h
+front_of_all status.OutOfMemory messages all h = h
+front_of_all _ messages all h = ([], sym h ∙ sym (append-nil messages))
+
+-- writing the lines of a piece failed
+pub reads_write_fault : (w : Way) (kept : List ℕ → List Msg → List ℕ → Type 0) (lines : List ℕ) (done : Option Status) (fed total : ℕ) (input l : SourceState) (out o o' : SinkState) → (a : At kept total input l out o) → ((stream : List ℕ) (messages : List Msg) (taken : List ℕ) → kept stream messages taken → Keeps w lines done fed stream messages taken)
+    → TakesFront lines o.taken o'.taken → Reads w status.WriteFault input l out o'
+reads_write_fault w kept lines ended fed total input l out o o' a keeps front =
+    let k = keeps (counted a.read) a.messages a.written a.kept_is in record {
+      read = a.read;
+      consumed = a.consumed;
+      verdict = k.prints.verdict;
+      ending = write_fault refl;
+      messages = a.messages;
+      printed = printed_part ended k.prints.ended;
+      writes = subst (λ (t : List ℕ). TakesFront (t ++ w.last a.messages) out.taken o'.taken) k.prints.lines_are (front_after a.written lines (w.last a.messages) out.taken o.taken o'.taken a.taken_is front);
+    }
+  where
+    v : Verdict (plain w.sender) (counted a.read)
+    v = (keeps (counted a.read) a.messages a.written a.kept_is).prints.verdict
+
+    printed_part : (done : Option Status) → IsDone w done v a.messages → IsFront a.messages (printed_of w v)
+    printed_part None h = ([], sym h.1 ∙ sym (append-nil a.messages))
+    printed_part (Some status.OutOfMemory) h = h
+    printed_part (Some x) h = ([], sym h.1 ∙ sym (append-nil a.messages))
 
 -- all was written before the end; then come the last lines
-pub reads_finished : (w : Way) (end result : Status) (total : ℕ) (left l l' taken taken' new : Option (List ℕ)) (ended : Option Bool) (messages : List Msg) (rest written : List ℕ) (sink sink' : ℕ) → Stands w total left l taken taken' messages rest written → l' ≡ l → written ≡ w.text messages
-    → ((s : List ℕ) → left ≡ before s l' → total ≡ length s → EndsAt w end s l' ended (length (frames_of messages)) rest)
-    → (end ≢ status.WriteFault) → Finishes w end result messages taken' new sink sink' → Reads w result left l' ended taken new
-reads_finished w end result total left l l' taken taken' new ended messages rest written sink sink' s same all ends fine finishes =
-    let consumed : left ≡ before s.read l' = s.consumed ∙ ap (before s.read) (sym same) in
+pub reads_finished : (w : Way) (end result : Status) (read : List ℕ) (messages : List Msg) (written : List ℕ) (input l : SourceState) (out o o' : SinkState) → input.left ≡ before read l.left → (v : VerdictOn w read) → EndsAt w end read v l → IsPrinted end messages (printed_of w v) → written ≡ w.text messages → o.taken ≡ after out.taken written
+    → (end ≢ status.WriteFault) → Finishes w end result messages o o' → Reads w result input l out o'
+reads_finished w end result read messages written input l out o o' consumed v ending printed all taken fine finishes =
     elim finishes [
-      | inl whole ↦ record {
-        read = s.read;
+      | inl whole ↦ subst (λ (e : Status). Reads w e input l out o') (sym whole.0) (record {
+        read = read;
         consumed = consumed;
+        verdict = v;
+        ending = ending;
         messages = messages;
-        rest = rest;
-        begins = s.begins;
-        ending = subst (λ (e : Status). EndsAt w e s.read l' ended (length (frames_of messages)) rest) (sym whole.0) (ends s.read consumed s.total_is);
-        writes = subst (λ (e : Status). Writes w e messages taken new) (sym whole.0) (writes_all end fine
-            (whole.1 ∙ ap (λ (o : Option (List ℕ)). after o (w.last messages)) s.taken_is ∙ after-after taken written (w.last messages) ∙ ap (λ (t : List ℕ). after taken (t ++ w.last messages)) all));
-      }
-      | inr failed ↦ record {
-        read = s.read;
+        printed = printed;
+        writes = writes_all end fine (whole.1 ∙ ap (λ (t : Option (List ℕ)). after t (w.last messages)) taken ∙ after-after out.taken written (w.last messages) ∙ ap (λ (t : List ℕ). after out.taken (t ++ w.last messages)) all);
+      })
+      | inr failed ↦ subst (λ (e : Status). Reads w e input l out o') (sym failed.0) (record {
+        read = read;
         consumed = consumed;
+        verdict = v;
+        ending = write_fault refl;
         messages = messages;
-        rest = rest;
-        begins = s.begins;
-        ending = write_fault failed.0;
-        writes = subst (λ (e : Status). Writes w e messages taken new) (sym failed.0)
-            (subst (λ (t : List ℕ). TakesFront t taken new) (append-nil (written ++ w.last messages) ∙ ap (λ (t : List ℕ). t ++ w.last messages) all)
-            (front_after written (w.last messages) [] taken taken' new s.taken_is failed.1));
-      }
+        printed = front_of_all end messages (printed_of w v) printed;
+        writes = subst (λ (t : List ℕ). TakesFront t out.taken o'.taken) (append-nil (written ++ w.last messages) ∙ ap (λ (t : List ℕ). t ++ w.last messages) all)
+            (front_after written (w.last messages) [] out.taken o.taken o'.taken taken failed.1);
+      })
     ]
   where
-    writes_all : (e : Status) → e ≢ status.WriteFault → new ≡ after taken (all_lines w messages) → Writes w e messages taken new
+    writes_all : (e : Status) → e ≢ status.WriteFault → o'.taken ≡ after out.taken (all_lines w messages) → Writes w e messages out o'
     writes_all status.WriteFault other is = absurd (other refl)
     writes_all _ other is = is
+
+-- the lines of the messages are all written
+all_written : (w : Way) (lines : List ℕ) (done : Option Status) (fed : ℕ) (stream : List ℕ) (messages : List Msg) (written : List ℕ) → Keeps w lines done fed stream messages written → lines ≡ [] → written ≡ w.text messages
+all_written w lines ended fed stream messages written k none = sym (append-nil written) ∙ ap (λ (t : List ℕ). written ++ t) (sym none) ∙ k.prints.lines_are
+
+-- ---- the exits
+
+-- of a command that goes on before the end: at a fault of the input, or past the limit
+pub finished_open : (w : Way) (kept : List ℕ → List Msg → List ℕ → Type 0) (end result : Status) (lines : List ℕ) (done : Option Status) (fed total : ℕ) (input l l' : SourceState) (out o o' : SinkState) → (a : At kept total input l out o) → ((stream : List ℕ) (messages : List Msg) (taken : List ℕ) → kept stream messages taken → Keeps w lines done fed stream messages taken)
+    → lines ≡ [] → done ≡ None → l'.left ≡ l.left → ((v : VerdictOn w a.read) → decided w v ≡ None → EndsAt w end a.read v l') → ((messages all : List Msg) → messages ≡ all → IsPrinted end messages all) → (end ≢ status.WriteFault)
+    → ((stream : List ℕ) (messages : List Msg) (taken : List ℕ) → kept stream messages taken → Finishes w end result messages o o') → Reads w result input l' out o'
+finished_open w kept end result lines ended fed total input l l' out o o' a keeps empty none same ends prints fine finishes =
+    let k = keeps (counted a.read) a.messages a.written a.kept_is in
+    let v : VerdictOn w a.read = k.prints.verdict in
+    let goes = goes_on w (counted a.read) ended v a.messages none k.prints.ended in
+    reads_finished w end result a.read a.messages a.written input l' out o o' (a.consumed ∙ ap (before a.read) (sym same)) v (ends v goes.0) (prints a.messages (printed_of w v) goes.1)
+    (all_written w lines ended fed (counted a.read) a.messages a.written k empty) a.taken_is fine (finishes (counted a.read) a.messages a.written a.kept_is)
+
+-- where the input ends
+pub finished_end : (w : Way) (kept : List ℕ → List Msg → List ℕ → Type 0) (end result : Status) (lines : List ℕ) (done : Option Status) (fed total : ℕ) (buffer : List ℕ) (input l l' : SourceState) (out o o' : SinkState) → (a : At kept total input l out o) → ((stream : List ℕ) (messages : List Msg) (taken : List ℕ) → kept stream messages taken → Keeps w lines done fed stream messages taken)
+    → lines ≡ [] → total ≤ INPUT_LIMIT → ReadsOne answer.End buffer l l' → ((stream : List ℕ) (messages : List Msg) (taken : List ℕ) → kept stream messages taken → EndsHere w end stream messages)
+    → ((stream : List ℕ) (messages : List Msg) (taken : List ℕ) → kept stream messages taken → Finishes w end result messages o o') → Reads w result input l' out o'
+finished_end w kept end result lines ended fed total buffer input l l' out o o' a keeps empty within r here finishes =
+    let k = keeps (counted a.read) a.messages a.written a.kept_is in
+    let e = here (counted a.read) a.messages a.written a.kept_is in
+    let by : IsByBytes end = subst IsByBytes (sym e.end_is) (input_by_bytes w e.verdict.place e.verdict.rest) in
+    let at : AtEnd a.read l' = record { none_left = subst NoneLeft (sym r.gives.1) r.gives.0; answered = answered l.ended l'.ended r.ends; within = omega (arith, a.total_is) } in
+    reads_finished w end result a.read a.messages a.written input l' out o o' (a.consumed ∙ ap (before a.read) (sym r.gives.1)) e.verdict (at_the_end e.undecided e.end_is at) (prints_all end a.messages (printed_of w e.verdict) by e.printed)
+    (all_written w lines ended fed (counted a.read) a.messages a.written k empty) a.taken_is (fine_by_bytes end by) (finishes (counted a.read) a.messages a.written a.kept_is)
+  where
+    answered : (e e' : Option Bool) → ReadEnds answer.End e e' → IsSet e'
+    answered None e' ends = subst IsSet (sym ends) tt
+    answered (Some flag) e' ends = subst IsSet (sym ends) refl
+
+-- where the core has ended
+pub finished_stop : (w : Way) (kept : List ℕ → List Msg → List ℕ → Type 0) (end result : Status) (lines : List ℕ) (done : Option Status) (fed total : ℕ) (input l : SourceState) (out o o' : SinkState) → (a : At kept total input l out o) → ((stream : List ℕ) (messages : List Msg) (taken : List ℕ) → kept stream messages taken → Keeps w lines done fed stream messages taken)
+    → lines ≡ [] → Some end ≡ done → ((stream : List ℕ) (messages : List Msg) (taken : List ℕ) → kept stream messages taken → Finishes w end result messages o o') → Reads w result input l out o'
+finished_stop w kept end result lines ended fed total input l out o o' a keeps empty is finishes =
+    let k = keeps (counted a.read) a.messages a.written a.kept_is in
+    let v : VerdictOn w a.read = k.prints.verdict in
+    let all = all_written w lines ended fed (counted a.read) a.messages a.written k empty in
+    let last = finishes (counted a.read) a.messages a.written a.kept_is in
+    elim (has_ended w (counted a.read) ended end v a.messages is k.prints.ended) [
+      | inl so ↦
+          let by : IsByBytes end = decided_by_bytes w (counted a.read) v end so.0 in
+          reads_finished w end result a.read a.messages a.written input l out o o' a.consumed v (by_bytes so.0) (prints_all end a.messages (printed_of w v) by so.1) all a.taken_is (fine_by_bytes end by) last
+      | inr out_of ↦
+          let P : Status → Type 0 = λ e. IsPrinted e a.messages (printed_of w v) in
+          reads_finished w end result a.read a.messages a.written input l out o o' a.consumed v (no_memory out_of.0) (subst P (sym out_of.0) out_of.1) all a.taken_is (λ same. memory_is_no_fault (sym out_of.0 ∙ same)) last
+    ]
+
+-- ---- the counts
 
 source_or : (end : Status) (source source' : ℕ) → end ≢ status.WriteFault → SourceCounts end source source' → (source' ≡ source) ⊎ Rises source source'
 source_or status.ReadFault source source' fine c = inr c
@@ -189,34 +323,14 @@ sink_same status.WriteFault sink sink' fine same = absurd (fine refl)
 sink_same _ sink sink' fine same = same
 
 -- the counts at the end: the input's is as the end says, and the output's rose where the last lines were not taken
-pub causes_finished : (w : Way) (end result : Status) (messages : List Msg) (old new : Option (List ℕ)) (source source' sink middle sink' : ℕ) → SourceCounts end source source' → middle ≡ sink → end ≢ status.WriteFault
-    → Finishes w end result messages old new middle sink' → Causes result source source' sink sink'
-causes_finished w end result messages old new source source' sink middle sink' counts same fine finishes =
+pub causes_finished : (w : Way) (end result : Status) (messages : List Msg) (input input' : SourceState) (out o o' : SinkState) → SourceCounts end input.faults input'.faults → o.faults ≡ out.faults → end ≢ status.WriteFault → Finishes w end result messages o o' → Causes result input input' out o'
+causes_finished w end result messages input input' out o o' counts same fine finishes =
     elim finishes [
-      | inl whole ↦ subst (λ (e : Status). Causes e source source' sink sink') (sym whole.0) (counts, sink_same end sink sink' fine (whole.2 ∙ same))
-      | inr failed ↦ subst (λ (e : Status). Causes e source source' sink sink') (sym failed.0) (source_or end source source' fine counts, subst (λ (n : ℕ). Rises n sink') same failed.2)
+      | inl whole ↦ subst (λ (e : Status). Causes e input input' out o') (sym whole.0) (counts, sink_same end out.faults o'.faults fine (whole.2 ∙ same))
+      | inr failed ↦ subst (λ (e : Status). Causes e input input' out o') (sym failed.0) (source_or end input.faults input'.faults fine counts, subst (λ (n : ℕ). Rises n o'.faults) same failed.2)
     ]
 
--- the input's end is the command's
-pub ends_at_end : (w : Way) (end : Status) (total : ℕ) (l l' : Option (List ℕ)) (e e' : Option Bool) (buffer : List ℕ) (messages : List Msg) (rest read : List ℕ) → IsPartial body_limit rest → EndsHere w end (length (frames_of messages)) rest → ReadGives answer.End buffer l l' → ReadEnds answer.End e e' → total ≤ input_limit → total ≡ length read
-    → EndsAt w end read l' e' (length (frames_of messages)) rest
-ends_at_end w end total l l' e e' buffer messages rest read partial here gives ends within total-is =
-    at_the_end partial here (record { none_left = subst NoneLeft (sym gives.1) gives.0; answered = answered e e' ends; within = omega (arith, total-is) })
-  where
-    answered : (e e' : Option Bool) → ReadEnds answer.End e e' → IsSet e'
-    answered None e' ends = subst IsSet (sym ends) tt
-    answered (Some flag) e' ends = subst IsSet (sym ends) refl
-
--- a command whose end the bytes decide has no fault
-pub fine_by_bytes : (end : Status) → IsByBytes end → end ≢ status.WriteFault
-fine_by_bytes status.Ok by same = absurd cc
-fine_by_bytes (status.BadFrames place why) by same = absurd cc
-fine_by_bytes (status.NotYet place) by same = absurd cc
-fine_by_bytes (status.Lost cause) by same = absurd cc
-fine_by_bytes (status.Refused which) by same = absurd cc
-fine_by_bytes _ by same = by
-
-pub source_by_bytes : (end : Status) (source source' : ℕ) → IsByBytes end → source' ≡ source → SourceCounts end source source'
+source_by_bytes : (end : Status) (source source' : ℕ) → IsByBytes end → source' ≡ source → SourceCounts end source source'
 source_by_bytes status.Ok source source' by same = same
 source_by_bytes (status.BadFrames place why) source source' by same = same
 source_by_bytes (status.NotYet place) source source' by same = same
@@ -224,83 +338,24 @@ source_by_bytes (status.Lost cause) source source' by same = same
 source_by_bytes (status.Refused which) source source' by same = same
 source_by_bytes _ source source' by same = absurd by
 
--- the lines of the messages are all written
-pub all_written : (w : Way) (lines : List ℕ) (messages : List Msg) (written : List ℕ) → Printed w lines messages written → lines ≡ [] → written ≡ w.text messages
-all_written w lines messages written p none = sym (append-nil written) ∙ ap (λ (t : List ℕ). written ++ t) (sym none) ∙ p.lines_are
+-- where the input ends
+pub causes_end : (w : Way) (kept : List ℕ → List Msg → List ℕ → Type 0) (end result : Status) (total : ℕ) (input l l' : SourceState) (out o o' : SinkState) → (a : At kept total input l out o) → ((stream : List ℕ) (messages : List Msg) (taken : List ℕ) → kept stream messages taken → EndsHere w end stream messages) → l'.faults ≡ input.faults → o.faults ≡ out.faults
+    → ((stream : List ℕ) (messages : List Msg) (taken : List ℕ) → kept stream messages taken → Finishes w end result messages o o') → Causes result input l' out o'
+causes_end w kept end result total input l l' out o o' a here source sink finishes =
+    let e = here (counted a.read) a.messages a.written a.kept_is in
+    let by : IsByBytes end = subst IsByBytes (sym e.end_is) (input_by_bytes w e.verdict.place e.verdict.rest) in
+    causes_finished w end result a.messages input l' out o o' (source_by_bytes end input.faults l'.faults by source) sink (fine_by_bytes end by) (finishes (counted a.read) a.messages a.written a.kept_is)
 
--- where the command stands before a read, that read is rightly made
-pub stops_here : (w : Way) (total : ℕ) (left l before_l taken taken' : Option (List ℕ)) (e before_e : Option Bool) (messages : List Msg) (rest written : List ℕ) → Stands w total left l taken taken' messages rest written → IsPartial body_limit rest → NotSet e → total ≤ input_limit
-    → (before_l ≡ l) × (before_e ≡ e) → Stops w left before_l before_e
-stops_here w total left l before_l taken taken' e before_e messages rest written s partial fine within latest = record {
-  earlier = s.read;
-  consumed = s.consumed ∙ ap (before s.read) (sym latest.0);
-  not_ended = subst NotSet (sym latest.1) fine;
-  within = omega (arith, s.total_is);
-  messages = messages;
-  rest = rest;
-  begins = subst (λ (x : List ℕ). Begins w messages x rest) (take_all input_limit s.read (omega (arith, s.total_is))) s.begins;
-  partial = partial;
-}
-
--- ---- the exits of a run, where the core's way is the command's
-
-no_fault : {A : Type 0} → status.ReadFault ≡ status.WriteFault → A
-no_fault same = absurd cc
-
-no_memory_fault : {A : Type 0} → status.OutOfMemory ≡ status.WriteFault → A
-no_memory_fault same = absurd cc
-
-no_limit_fault : {A : Type 0} → status.InputTooLong ≡ status.WriteFault → A
-no_limit_fault same = absurd cc
-
--- all was written, and the last lines were, or not
-pub finished : (w v : Way) → v ≡ w → (end result : Status) (total : ℕ) (left l l' taken taken' new : Option (List ℕ)) (ended : Option Bool) (messages : List Msg) (rest written lines : List ℕ) (sink sink' : ℕ) → Stands w total left l taken taken' messages rest written → l' ≡ l → Printed v lines messages written → lines ≡ []
-    → ((s : List ℕ) → total ≡ length s → EndsAt w end s l' ended (length (frames_of messages)) rest) → (end ≢ status.WriteFault) → Finishes v end result messages taken' new sink sink' → Reads w result left l' ended taken new
-finished w v way end result total left l l' taken taken' new ended messages rest written lines sink sink' s same p none ends fine f =
-    reads_finished w end result total left l l' taken taken' new ended messages rest written sink sink' s same (all_written w lines messages written (subst (λ (q : Way). Printed q lines messages written) way p) none)
-    (λ read consumed total-is. ends read total-is) fine (subst (λ (q : Way). Finishes q end result messages taken' new sink sink') way f)
-
-pub finished_fault : (w v : Way) → v ≡ w → (result : Status) (total : ℕ) (left l l' taken taken' new : Option (List ℕ)) (ended : Option Bool) (messages : List Msg) (rest written lines : List ℕ) (sink sink' : ℕ) → Stands w total left l taken taken' messages rest written → l' ≡ l → Printed v lines messages written → lines ≡ []
-    → IsPartial body_limit rest → Finishes v status.ReadFault result messages taken' new sink sink' → Reads w result left l' ended taken new
-finished_fault w v way result total left l l' taken taken' new ended messages rest written lines sink sink' s same p none partial f =
-    finished w v way status.ReadFault result total left l l' taken taken' new ended messages rest written lines sink sink' s same p none (λ read total-is. read_fault refl partial) (λ e. no_fault e) f
-
-pub finished_memory : (w v : Way) → v ≡ w → (result : Status) (total : ℕ) (left l taken taken' new : Option (List ℕ)) (ended : Option Bool) (messages : List Msg) (rest written lines : List ℕ) (sink sink' : ℕ) → Stands w total left l taken taken' messages rest written → Printed v lines messages written → lines ≡ []
-    → Finishes v status.OutOfMemory result messages taken' new sink sink' → Reads w result left l ended taken new
-finished_memory w v way result total left l taken taken' new ended messages rest written lines sink sink' s p none f =
-    finished w v way status.OutOfMemory result total left l l taken taken' new ended messages rest written lines sink sink' s refl p none (λ read total-is. no_memory refl) (λ e. no_memory_fault e) f
-
-pub finished_limit : (w v : Way) → v ≡ w → (result : Status) (total : ℕ) (left l taken taken' new : Option (List ℕ)) (ended : Option Bool) (messages : List Msg) (rest written lines : List ℕ) (sink sink' : ℕ) → Stands w total left l taken taken' messages rest written → Printed v lines messages written → lines ≡ []
-    → IsPartial body_limit rest → input_limit < total → Finishes v status.InputTooLong result messages taken' new sink sink' → Reads w result left l ended taken new
-finished_limit w v way result total left l taken taken' new ended messages rest written lines sink sink' s p none partial long f =
-    finished w v way status.InputTooLong result total left l l taken taken' new ended messages rest written lines sink sink' s refl p none (λ read total-is. too_long refl partial (omega (arith, total-is))) (λ e. no_limit_fault e) f
-
-pub finished_end : (w v : Way) → v ≡ w → (end result : Status) (total : ℕ) (left l l' taken taken' new : Option (List ℕ)) (e e' : Option Bool) (buffer : List ℕ) (messages : List Msg) (rest written lines : List ℕ) (sink sink' : ℕ) → Stands w total left l taken taken' messages rest written → Printed v lines messages written → lines ≡ []
-    → IsPartial body_limit rest → EndsHere v end (length (frames_of messages)) rest → ReadGives answer.End buffer l l' → ReadEnds answer.End e e' → total ≤ input_limit → Finishes v end result messages taken' new sink sink' → Reads w result left l' e' taken new
-finished_end w v way end result total left l l' taken taken' new e e' buffer messages rest written lines sink sink' s p none partial here gives ends within f =
-    finished w v way end result total left l l' taken taken' new e' messages rest written lines sink sink' s gives.1 p none
-    (λ read total-is. ends_at_end w end total l l' e e' buffer messages rest read partial (subst (λ (q : Way). EndsHere q end (length (frames_of messages)) rest) way here) gives ends within total-is) (fine_by_bytes end here.0) f
-
--- a core that has ended stands at what ended it
-stops_of : (w : Way) (done : Option Status) (end : Status) (place : ℕ) (rest : List ℕ) → Some end ≡ done → StandsAt w done place rest → StopsAt w end place rest × IsByBytes end
-stops_of w None end place rest is stands = absurd cc
-stops_of w (Some e) end place rest is stands = subst (λ (x : Status). StopsAt w x place rest × IsByBytes x) (sym (some_is end e is)) stands
-  where
-    some_is : (x y : Status) → Some x ≡ Some y → x ≡ y
-    some_is x y same = cc
-
-pub finished_stop : (w v : Way) → v ≡ w → (end result : Status) (fed total : ℕ) (left l taken taken' new : Option (List ℕ)) (ended : Option Bool) (done : Option Status) (messages : List Msg) (rest written lines : List ℕ) (sink sink' : ℕ) → Stands w total left l taken taken' messages rest written → Keeps v lines done fed messages rest written → lines ≡ []
-    → Some end ≡ done → Finishes v end result messages taken' new sink sink' → Reads w result left l ended taken new
-finished_stop w v way end result fed total left l taken taken' new ended done messages rest written lines sink sink' s k none is f =
-    let stops = stops_of v done end (length (frames_of messages)) rest is k.stands in
-    finished w v way end result total left l l taken taken' new ended messages rest written lines sink sink' s refl k.printed none
-    (λ read total-is. by_frame (subst (λ (q : Way). StopsAt q end (length (frames_of messages)) rest) way stops.0)) (fine_by_bytes end stops.1) f
-
-pub by_bytes_of : (w : Way) (lines : List ℕ) (done : Option Status) (end : Status) (fed : ℕ) (messages : List Msg) (rest written : List ℕ) → Keeps w lines done fed messages rest written → Some end ≡ done → IsByBytes end
-by_bytes_of w lines done end fed messages rest written k is = (stops_of w done end (length (frames_of messages)) rest is k.stands).1
-
-pub printed_as : (w v : Way) → v ≡ w → (lines : List ℕ) (messages : List Msg) (written : List ℕ) → Printed v lines messages written → Printed w lines messages written
-printed_as w v way lines messages written p = subst (λ (q : Way). Printed q lines messages written) way p
-
-abbrev pub further_as : (w v : Way) → v ≡ w → (rest piece : List ℕ) → Further v rest piece → Further w rest piece
-further_as w v way rest piece f = record { more = f.more; rest' = f.rest'; begins = subst (λ (q : Way). Begins q f.more (rest ++ piece) f.rest') way f.begins }
+-- where the core has ended
+pub causes_stop : (w : Way) (kept : List ℕ → List Msg → List ℕ → Type 0) (end result : Status) (lines : List ℕ) (done : Option Status) (fed total : ℕ) (input l : SourceState) (out o o' : SinkState) → (a : At kept total input l out o) → ((stream : List ℕ) (messages : List Msg) (taken : List ℕ) → kept stream messages taken → Keeps w lines done fed stream messages taken)
+    → Some end ≡ done → l.faults ≡ input.faults → o.faults ≡ out.faults → ((stream : List ℕ) (messages : List Msg) (taken : List ℕ) → kept stream messages taken → Finishes w end result messages o o') → Causes result input l out o'
+causes_stop w kept end result lines ended fed total input l out o o' a keeps is source sink finishes =
+    let k = keeps (counted a.read) a.messages a.written a.kept_is in
+    let v : VerdictOn w a.read = k.prints.verdict in
+    let last = finishes (counted a.read) a.messages a.written a.kept_is in
+    elim (has_ended w (counted a.read) ended end v a.messages is k.prints.ended) [
+      | inl so ↦
+          let by : IsByBytes end = decided_by_bytes w (counted a.read) v end so.0 in
+          causes_finished w end result a.messages input l out o o' (source_by_bytes end input.faults l.faults by source) sink (fine_by_bytes end by) last
+      | inr out_of ↦ causes_finished w end result a.messages input l out o o' (subst (λ (e : Status). SourceCounts e input.faults l.faults) (sym out_of.0) source) sink (λ same. memory_is_no_fault (sym out_of.0 ∙ same)) last
+    ]

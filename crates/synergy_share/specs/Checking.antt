@@ -2,7 +2,7 @@
 use Rattle.std.specs.Prelude.{◌≡◌, ℕ, zero, ◌<◌, ◌≤◌, List, length, Option, IfSome, Result, Ok, Err, ◌⊎◌}
 use Rattle.share_base.specs.Told.{after}
 use Rattle.share_base.specs.Counts.{one_more, Rises}
-use Rattle.share_base.specs.Writing.{TakesFront}
+use Rattle.share_base.specs.Writing.{SinkState, TakesFront}
 use Rattle.config_text.specs.declared.faults.ConfigKind.TheVariants as kinds
 use Rattle.config_text.specs.declared.faults.ConfigRefusal.{ConfigRefusal}
 use Rattle.config_text.specs.Configurations.{Configuration}
@@ -57,17 +57,17 @@ ReadsConfig (Ok config) told = HasConfig told config
 ReadsConfig (Err end) told = NoConfig end told
 
 -- how a configuration's normal form is written: all of it, a front of it where the sink failed, or nothing for want of memory
-abbrev pub Prints : Status → Configuration → Option (List ℕ) → Option (List ℕ) → Type 0
-Prints status.Ok config old new = new ≡ after old (normal config)
-Prints status.WriteFault config old new = TakesFront (normal config) old new
-Prints status.OutOfMemory config old new = new ≡ old
+abbrev pub Prints : Status → Configuration → SinkState → SinkState → Type 0
+Prints status.Ok config old new = new.taken ≡ after old.taken (normal config)
+Prints status.WriteFault config old new = TakesFront (normal config) old.taken new.taken
+Prints status.OutOfMemory config old new = new.taken ≡ old.taken
 Prints _ config old new = ⊥
 
 -- each end of `check` with its cause and with what was written
-abbrev pub Checks : Status → Option (List ℕ) → Option (List ℕ) → Option (List ℕ) → Type 0
+abbrev pub Checks : Status → Option (List ℕ) → SinkState → SinkState → Type 0
 Checks status.Ok told old new = (config : Configuration) × HasConfig told config × Prints status.Ok config old new
 Checks status.WriteFault told old new = (config : Configuration) × HasConfig told config × Prints status.WriteFault config old new
-Checks end told old new = NoConfig end told × (new ≡ old)
+Checks end told old new = NoConfig end told × (new.taken ≡ old.taken)
 
 -- how a command ends by what was given; ok where it goes on
 abbrev pub end_of : {A : Type 0} → Result A Status → Status

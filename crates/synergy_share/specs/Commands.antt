@@ -1,37 +1,44 @@
 -- What a command writes of the bytes that it reads, how it ends, and where it stops to read.
-use Rattle.std.specs.Prelude.{◌≡◌, ℕ, ◌<◌, ◌≤◌, Bool, List, ◌++◌, length, take, Option}
+use Rattle.std.specs.Prelude.{◌≡◌, ◌<◌, ◌≤◌, ℕ, List, ◌++◌, length, take, Option, Some, None, IfSome}
 use Rattle.std.specs.List.{flat_map}
 use Rattle.held_inputs.specs.declared.line.Line.{Line}
 use Rattle.held_inputs.specs.Line.{line_of}
 use Rattle.held_inputs.specs.Balanced.{Balanced, ClearAtLeaves}
 use Rattle.share_base.specs.Told.{before, after, NoneLeft, IsSet, NotSet}
-use Rattle.share_base.specs.Writing.{TakesFront}
-use Rattle.wire_frames.specs.Framing.{IsPartial}
+use Rattle.share_base.specs.Reading.{SourceState}
+use Rattle.share_base.specs.Writing.{SinkState, TakesFront}
 use Rattle.message_codec.specs.declared.messages.Msg.{Msg}
-use Rattle.message_codec.specs.Streams.{body_limit, frames_of}
+use Rattle.message_codec.specs.Streams.{plain}
+use Rattle.message_codec.specs.Verdicts.{Verdict}
+use Rattle.message_reader.specs.Endings.{IsFront}
+use Rattle.synergy_share.specs.declared.commands.TheConstants.{INPUT_LIMIT}
 use Rattle.synergy_share.specs.declared.status.Status.{Status}
 use Rattle.synergy_share.specs.declared.status.Status.TheVariants as status
 use Rattle.synergy_share.specs.Ways.{Way}
-use Rattle.synergy_share.specs.Begins.{Begins, StopsAt}
-use Rattle.synergy_share.specs.Cores.{EndsHere}
+use Rattle.synergy_share.specs.Endings.{printed_of, decided, end_of_input}
 
-abbrev pub input_limit : ℕ
-input_limit = 1073741824
+-- the bytes read that count
+abbrev pub counted : List ℕ → List ℕ
+counted read = take INPUT_LIMIT read
 
--- the input ended within the limit: where that is told, no byte is left, and a read has answered so
-pub record AtEnd (read : List ℕ) (left : Option (List ℕ)) (ended : Option Bool) : Type 0 where
-  pub none_left : NoneLeft left
-  pub answered : IsSet ended
-  pub within : length read ≤ input_limit
+-- the verdict on them, where all messages of the sender may stand anywhere
+abbrev pub VerdictOn : Way → List ℕ → Type 0
+VerdictOn w read = Verdict (plain w.sender) (counted read)
 
--- each end with its cause, after these bytes were read, at a rest that stands at that place
-pub data EndsAt (w : Way) (end : Status) (read : List ℕ) (left : Option (List ℕ)) (ended : Option Bool) (place : ℕ) (rest : List ℕ) : Type 0 where
-  by_frame : StopsAt w end place rest → EndsAt w end read left ended place rest
-  at_the_end : IsPartial body_limit rest → EndsHere w end place rest → AtEnd read left ended → EndsAt w end read left ended place rest
-  too_long : end ≡ status.InputTooLong → IsPartial body_limit rest → input_limit < length read → EndsAt w end read left ended place rest
-  read_fault : end ≡ status.ReadFault → IsPartial body_limit rest → EndsAt w end read left ended place rest
-  write_fault : end ≡ status.WriteFault → EndsAt w end read left ended place rest
-  no_memory : end ≡ status.OutOfMemory → EndsAt w end read left ended place rest
+-- the input ended within the limit: no byte is left, and a read has answered so, as far as that is known
+pub record AtEnd (read : List ℕ) (input : SourceState) : Type 0 where
+  pub none_left : NoneLeft input.left
+  pub answered : IsSet input.ended
+  pub within : length read ≤ INPUT_LIMIT
+
+-- each end with its cause, after these bytes were read
+pub data EndsAt (w : Way) (end : Status) (read : List ℕ) (verdict : VerdictOn w read) (input : SourceState) : Type 0 where
+  by_bytes : decided w verdict ≡ Some end → EndsAt w end read verdict input
+  at_the_end : decided w verdict ≡ None → end ≡ end_of_input w verdict → AtEnd read input → EndsAt w end read verdict input
+  too_long : decided w verdict ≡ None → end ≡ status.InputTooLong → INPUT_LIMIT < length read → EndsAt w end read verdict input
+  read_fault : decided w verdict ≡ None → end ≡ status.ReadFault → EndsAt w end read verdict input
+  write_fault : end ≡ status.WriteFault → EndsAt w end read verdict input
+  no_memory : end ≡ status.OutOfMemory → EndsAt w end read verdict input
 
 -- an end that what was read decides: neither a fault nor want of memory
 abbrev pub IsDecided : Status → Type 0
@@ -40,44 +47,48 @@ IsDecided status.WriteFault = ⊥
 IsDecided status.OutOfMemory = ⊥
 IsDecided _ = Unit {0}
 
+-- the messages whose lines were printed: all before the end; or some of them, where the sink failed or memory ran out
+abbrev pub IsPrinted : Status → List Msg → List Msg → Type 0
+IsPrinted status.WriteFault messages all = IsFront messages all
+IsPrinted status.OutOfMemory messages all = IsFront messages all
+IsPrinted end messages all = messages ≡ all
+
 -- all the lines of the messages, and those at the end
 abbrev pub all_lines : Way → List Msg → List ℕ
 all_lines w messages = w.text messages ++ w.last messages
 
 -- what the sink took: all of the lines, or a front of them where it failed
-abbrev pub Writes : Way → Status → List Msg → Option (List ℕ) → Option (List ℕ) → Type 0
-Writes w status.WriteFault messages old new = TakesFront (all_lines w messages) old new
-Writes w end messages old new = new ≡ after old (all_lines w messages)
+abbrev pub Writes : Way → Status → List Msg → SinkState → SinkState → Type 0
+Writes w status.WriteFault messages old new = TakesFront (all_lines w messages) old.taken new.taken
+Writes w end messages old new = new.taken ≡ after old.taken (all_lines w messages)
 
--- bytes were read; those within the limit begin with messages, at whose rest the command ends; and their lines were written
-pub record Reads (w : Way) (end : Status) (left left' : Option (List ℕ)) (ended' : Option Bool) (taken taken' : Option (List ℕ)) : Type 0 where
+-- bytes were read; the verdict on them ends the command so; and the lines of the messages before its end were written
+pub record Reads (w : Way) (end : Status) (input input' : SourceState) (out out' : SinkState) : Type 0 where
   pub read : List ℕ
-  pub consumed : left ≡ before read left'
+  pub consumed : input.left ≡ before read input'.left
+  pub verdict : VerdictOn w read
+  pub ending : EndsAt w end read verdict input'
   pub messages : List Msg
-  pub rest : List ℕ
-  pub begins : Begins w messages (take input_limit read) rest
-  pub ending : EndsAt w end read left' ended' (length (frames_of messages)) rest
-  pub writes : Writes w end messages taken taken'
+  pub printed : IsPrinted end messages (printed_of w verdict)
+  pub writes : Writes w end messages out out'
 
--- before the latest read no read had answered the end, and the bytes read were within the limit and left the command going on
-pub record Stops (w : Way) (left left_before : Option (List ℕ)) (ended_before : Option Bool) : Type 0 where
+-- before the latest read no read had answered the end, and the bytes read were within the limit and decided no end
+pub record Stops (w : Way) (input input' : SourceState) : Type 0 where
   pub earlier : List ℕ
-  pub consumed : left ≡ before earlier left_before
-  pub not_ended : NotSet ended_before
-  pub within : length earlier ≤ input_limit
-  pub messages : List Msg
-  pub rest : List ℕ
-  pub begins : Begins w messages earlier rest
-  pub partial : IsPartial body_limit rest
+  pub consumed : input.left ≡ before earlier input'.left_before
+  pub not_ended : NotSet input'.ended_before
+  pub within : length earlier ≤ INPUT_LIMIT
+  pub verdict : Verdict (plain w.sender) earlier
+  pub undecided : decided w verdict ≡ None
 
 -- what was written are lines in which every key and every mouse button went up, one up for each down, and nothing was down where the cursor left
-pub record Balances (old new : Option (List ℕ)) : Type 0 where
+pub record Balances (old new : SinkState) : Type 0 where
   pub lines : List Line
-  pub written : new ≡ after old (flat_map line_of lines)
+  pub written : new.taken ≡ after old.taken (flat_map line_of lines)
   pub balanced : Balanced lines
   pub leaves : ClearAtLeaves lines
 
 -- so it is at every end, but where the sink failed
-abbrev pub Releases : Status → Option (List ℕ) → Option (List ℕ) → Type 0
+abbrev pub Releases : Status → SinkState → SinkState → Type 0
 Releases status.WriteFault old new = Unit {0}
 Releases end old new = Balances old new

@@ -1,53 +1,62 @@
--- What a core of a command stands for: the messages of its stream so far, the rest after them, and the lines that were taken from it.
-use Rattle.std.specs.Prelude.{◌≡◌, ℕ, ◌+◌, List, [], ◌++◌, length, Option, Some, None, ◌⊎◌, ◌≢◌}
-use Rattle.std.specs.List.{AllByRecursion}
+-- What a core of a command stands for: the stream that it was fed, and the messages of it that it printed.
+use Rattle.std.specs.Prelude.{◌≡◌, ℕ, ◌≤◌, List, ◌++◌, length, Option, Some, None, ◌⊎◌}
 use Rattle.share_base.specs.Counts.{Rises}
 use Rattle.share_base.specs.Told.{after}
-use Rattle.share_base.specs.Writing.{TakesFront}
-use Rattle.share_base.specs.declared.reason.Reason.TheVariants as reason
-use Rattle.wire_frames.specs.Framing.{IsPartial}
+use Rattle.share_base.specs.Writing.{SinkState, TakesFront}
 use Rattle.message_codec.specs.declared.messages.Msg.{Msg}
-use Rattle.message_codec.specs.Streams.{body_limit, frames_of}
+use Rattle.message_codec.specs.Streams.{Reader, plain}
+use Rattle.message_codec.specs.Verdicts.{Verdict}
+use Rattle.message_reader.specs.Endings.{IsFront}
 use Rattle.synergy_share.specs.declared.status.Status.{Status}
 use Rattle.synergy_share.specs.declared.status.Status.TheVariants as status
 use Rattle.synergy_share.specs.Ways.{Way}
-use Rattle.synergy_share.specs.Begins.{GoesOn, Begins, StopsAt}
+use Rattle.synergy_share.specs.Endings.{printed_of, decided, end_of_input}
 
--- the lines of the messages were printed: those that were taken, and then those that are there
-pub record Printed (w : Way) (lines : List ℕ) (messages : List Msg) (taken : List ℕ) : Type 0 where
-  pub going : AllByRecursion (GoesOn w) messages
+-- how a core that printed these messages has ended: as the verdict says, after all that are printed; or out of memory, after some of them
+abbrev pub IsDone : {reader : Reader} {stream : List ℕ} → Way → Option Status → Verdict reader stream → List Msg → Type 0
+IsDone w (Some status.OutOfMemory) verdict messages = IsFront messages (printed_of w verdict)
+IsDone w done verdict messages = (done ≡ decided w verdict) × (messages ≡ printed_of w verdict)
+
+-- the core printed these messages of the stream: the lines that were taken and then its lines are theirs
+pub record Prints (w : Way) (reader : Reader) (lines : List ℕ) (done : Option Status) (stream : List ℕ) (messages : List Msg) (taken : List ℕ) : Type 0 where
+  pub verdict : Verdict reader stream
+  pub ended : IsDone w done verdict messages
   pub lines_are : taken ++ lines ≡ w.text messages
 
--- an end that the bytes alone decide
-abbrev pub IsByBytes : Status → Type 0
-IsByBytes status.Ok = Unit {0}
-IsByBytes (status.BadFrames place why) = Unit {0}
-IsByBytes (status.NotYet place) = Unit {0}
-IsByBytes (status.Lost cause) = Unit {0}
-IsByBytes (status.Refused which) = Unit {0}
-IsByBytes _ = ⊥
+pub record Keeps (w : Way) (lines : List ℕ) (done : Option Status) (total : ℕ) (stream : List ℕ) (messages : List Msg) (taken : List ℕ) : Type 0 where
+  pub prints : Prints w (plain w.sender) lines done stream messages taken
+  pub total_is : total ≤ length stream
 
--- it goes on at less than a frame, or has ended at the frame there
-abbrev pub StandsAt : Way → Option Status → ℕ → List ℕ → Type 0
-StandsAt w None place rest = IsPartial body_limit rest
-StandsAt w (Some end) place rest = StopsAt w end place rest × IsByBytes end
+-- how a core stands for a stream, its messages and the lines that were taken, on its way
+abbrev pub Standing : Type 0 → Type 1
+Standing C = C → Way → List ℕ → List Msg → List ℕ → Type 0
 
-pub record Keeps (w : Way) (lines : List ℕ) (done : Option Status) (total : ℕ) (messages : List Msg) (rest taken : List ℕ) : Type 0 where
-  pub printed : Printed w lines messages taken
-  pub total_is : total ≡ length (frames_of messages) + length rest
-  pub stands : StandsAt w done (length (frames_of messages)) rest
+-- a piece was fed, and more messages were printed
+abbrev pub Feeds : {C : Type 0} → Standing C → C → C → List ℕ → Type 0
+Feeds kept old new piece = (w : Way) (stream : List ℕ) (messages : List Msg) (taken : List ℕ) → kept old w stream messages taken → (more : List Msg) × kept new w (stream ++ piece) (messages ++ more) taken
 
--- further messages of a piece, and the rest after them
-pub record Further (w : Way) (rest piece : List ℕ) : Type 0 where
-  pub more : List Msg
-  pub rest' : List ℕ
-  pub begins : Begins w more (rest ++ piece) rest'
+-- the lines were taken
+abbrev pub Clears : {C : Type 0} → Standing C → C → C → List ℕ → Type 0
+Clears kept old new lines = (w : Way) (stream : List ℕ) (messages : List Msg) (taken : List ℕ) → kept old w stream messages taken → kept new w stream messages (taken ++ lines)
 
--- how the command ends where its input ends at that rest: between frames, or inside one
-abbrev pub EndsHere : Way → Status → ℕ → List ℕ → Type 0
-EndsHere w end place rest = IsByBytes end × (((rest ≡ []) × (end ≡ w.between)) ⊎ ((rest ≢ []) × (end ≡ status.BadFrames place reason.Cut)))
+-- the command ends so where its input ends after this stream
+pub record EndsHere (w : Way) (end : Status) (stream : List ℕ) (messages : List Msg) : Type 0 where
+  pub verdict : Verdict (plain w.sender) stream
+  pub undecided : decided w verdict ≡ None
+  pub printed : messages ≡ printed_of w verdict
+  pub end_is : end ≡ end_of_input w verdict
+
+abbrev pub EndsInput : {C : Type 0} → Standing C → C → Status → Type 0
+EndsInput kept core end = (w : Way) (stream : List ℕ) (messages : List Msg) (taken : List ℕ) → kept core w stream messages taken → EndsHere w end stream messages
+
+-- the bytes are the lines that are added at the end
+abbrev pub AddsLast : {C : Type 0} → Standing C → C → List ℕ → Type 0
+AddsLast kept core bytes = (w : Way) (stream : List ℕ) (messages : List Msg) (taken : List ℕ) → kept core w stream messages taken → bytes ≡ w.last messages
 
 -- the last lines were written, and the command ended so; or a front of them was, and the sink failed
-abbrev pub Finishes : Way → Status → Status → List Msg → Option (List ℕ) → Option (List ℕ) → ℕ → ℕ → Type 0
-Finishes w end result messages old new sink sink' =
-    ((result ≡ end) × (new ≡ after old (w.last messages)) × (sink' ≡ sink)) ⊎ ((result ≡ status.WriteFault) × TakesFront (w.last messages) old new × Rises sink sink')
+abbrev pub Finishes : Way → Status → Status → List Msg → SinkState → SinkState → Type 0
+Finishes w end result messages old new =
+    ((result ≡ end) × (new.taken ≡ after old.taken (w.last messages)) × (new.faults ≡ old.faults)) ⊎ ((result ≡ status.WriteFault) × TakesFront (w.last messages) old.taken new.taken × Rises old.faults new.faults)
+
+abbrev pub FinishesCore : {C : Type 0} → Standing C → C → Status → Status → SinkState → SinkState → Type 0
+FinishesCore kept core end result old new = (w : Way) (stream : List ℕ) (messages : List Msg) (taken : List ℕ) → kept core w stream messages taken → Finishes w end result messages old new

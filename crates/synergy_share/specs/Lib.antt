@@ -1,8 +1,7 @@
 pub mod Ways
-pub mod Begins
-pub mod Showing
+pub mod Endings
 pub mod Cores
-pub mod Shower
+pub mod Shows
 pub mod Injecting
 pub mod Commands
 pub mod Checking

@@ -47,8 +47,8 @@ fn read_config<F: Files>(alloc: Global, name: &str, files: &mut F) -> Result<Con
 }
 
 fn print_config<K: Sink>(alloc: Global, config: &Config, out: &mut K) -> Status
-    ensures prints { Prints result config.now (K.taken out.old) (K.taken out.new) }
-    ensures counts { SinkCounts result (K.faults out.old) (K.faults out.new) }
+    ensures prints { Prints result config.now (K.state out.old) (K.state out.new) }
+    ensures counts { SinkCounts result (K.state out.old).faults (K.state out.new).faults }
 {
     let mut text = Octets::new(alloc);
     let Ok(()) = print(alloc, config, &mut text) else {
@@ -73,10 +73,10 @@ pub fn run_check<F: Files, K: Sink>(
     files: &mut F,
     out: &mut K,
 ) -> Status
-    ensures checks { Checks result (F.told files.old config.now) (K.taken out.old) (K.taken out.new) }
+    ensures checks { Checks result (F.told files.old config.now) (K.state out.old) (K.state out.new) }
     ensures reads_once { ReadsOnce (F.told files.old) (F.told files.new) (F.calls files.old) (F.calls files.new) }
     ensures overs { OverCounts result (F.overs files.old) (F.overs files.new) }
-    ensures causes { FileCauses result (F.faults files.old) (F.faults files.new) (K.faults out.old) (K.faults out.new) }
+    ensures causes { FileCauses result (F.faults files.old) (F.faults files.new) (K.state out.old) (K.state out.new) }
 {
     match read_config(alloc, config, files) {
         Ok(config) => print_config(alloc, &config, out),

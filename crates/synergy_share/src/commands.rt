@@ -1,10 +1,9 @@
 //! The commands that read a stream and print its messages.
 
-ghost use Rattle.std.specs.Prelude.{◌≡◌, [], List, ℕ, None};
-ghost use Rattle.message_codec.specs.declared.messages.Msg.{Msg};
+ghost use Rattle.std.specs.Prelude.{◌≡◌, [], None};
 ghost use Rattle.share_base.specs.Told.{NotSet};
 ghost use Rattle.synergy_share.specs.Ways.{showing, injecting};
-ghost use Rattle.synergy_share.specs.Cores.{Finishes};
+ghost use Rattle.synergy_share.specs.Cores.{FinishesCore};
 ghost use Rattle.synergy_share.specs.Commands.{Reads, Stops, Releases};
 ghost use Rattle.synergy_share.specs.Causes.{Causes};
 
@@ -13,7 +12,7 @@ use crate::show_core::ShowCore;
 use crate::status::Status;
 use client_core::ClientCore;
 use message_codec::End;
-use share_base::{OutOfMemory, Sink, Source, SourceAnswer, write_all};
+use share_base::{Sink, Source, SourceAnswer, write_all};
 use std::alloc::Global;
 
 /// How many bytes of input a command takes.
@@ -21,7 +20,7 @@ pub const INPUT_LIMIT: usize = 1_073_741_824;
 
 /// Ends the command so: its last lines are written.
 fn finish<C: LineCore, K: Sink>(core: &mut C, out: &mut K, end: Status) -> Status
-    ensures { (messages : List Msg) (taken : List ℕ) → C.heard core.old messages taken → Finishes (C.way core.old) end result messages (K.taken out.old) (K.taken out.new) (K.faults out.old) (K.faults out.new) }
+    ensures { FinishesCore C.kept core.old end result (K.state out.old) (K.state out.new) }
 {
     let lines = core.last_lines(end);
     if write_all(out, lines.as_slice()) {
@@ -36,13 +35,15 @@ fn run_over<C: LineCore + Drop, S: Source, K: Sink>(
     input: &mut S,
     out: &mut K,
 ) -> Status
-    requires ended { NotSet (S.ended input.old) }
-    requires kept { C.kept core [] [] [] }
+    requires ended { NotSet (S.state input.old).ended }
+    requires kept { C.kept core (C.way core) [] [] [] }
     requires empty { C.lines core ≡ [] }
     requires goes { C.done core ≡ None }
-    ensures reads { Reads (C.way core) result (S.left input.old) (S.left input.new) (S.ended input.new) (K.taken out.old) (K.taken out.new) }
-    ensures stops { Stops (C.way core) (S.left input.old) (S.left_before input.new) (S.ended_before input.new) }
-    ensures causes { Causes result (S.faults input.old) (S.faults input.new) (K.faults out.old) (K.faults out.new) }
+    ensures reads { Reads (C.way core) result (S.state input.old) (S.state input.new)
+        (K.state out.old) (K.state out.new) }
+    ensures stops { Stops (C.way core) (S.state input.old) (S.state input.new) }
+    ensures causes { Causes result (S.state input.old) (S.state input.new)
+        (K.state out.old) (K.state out.new) }
 {
     let mut buffer = [0u8; 4096];
     let mut total = 0;
@@ -54,25 +55,15 @@ fn run_over<C: LineCore + Drop, S: Source, K: Sink>(
                 return finish(&mut core, out, end);
             }
             SourceAnswer::Got(n) => {
-                let kept = n.min(INPUT_LIMIT - total);
-                match core.feed(&buffer[..kept]) {
-                    Err(OutOfMemory) => {
-                        if !write_all(out, core.printed()) {
-                            return Status::WriteFault;
-                        }
-                        core.clear_printed();
-                        return finish(&mut core, out, Status::OutOfMemory);
-                    }
-                    Ok(()) => {
-                        if !write_all(out, core.printed()) {
-                            return Status::WriteFault;
-                        }
-                        core.clear_printed();
-                        match core.status() {
-                            Some(end) => return finish(&mut core, out, end),
-                            None => total += n,
-                        }
-                    }
+                let counted = n.min(INPUT_LIMIT - total);
+                core.feed(&buffer[..counted]);
+                if !write_all(out, core.printed()) {
+                    return Status::WriteFault;
+                }
+                core.clear_printed();
+                match core.status() {
+                    Some(end) => return finish(&mut core, out, end),
+                    None => total += n,
                 }
             }
         }
@@ -88,10 +79,12 @@ fn run_over<C: LineCore + Drop, S: Source, K: Sink>(
 /// `WriteFault` a front of them is. No read is made once one answered the end, or once the bytes read
 /// decide the end.
 pub fn run_show<S: Source, K: Sink>(alloc: Global, end: End, input: &mut S, out: &mut K) -> Status
-    requires { NotSet (S.ended input.old) }
-    ensures shows { Reads (showing end) result (S.left input.old) (S.left input.new) (S.ended input.new) (K.taken out.old) (K.taken out.new) }
-    ensures stops { Stops (showing end) (S.left input.old) (S.left_before input.new) (S.ended_before input.new) }
-    ensures causes { Causes result (S.faults input.old) (S.faults input.new) (K.faults out.old) (K.faults out.new) }
+    requires { NotSet (S.state input.old).ended }
+    ensures shows { Reads (showing end) result (S.state input.old) (S.state input.new)
+        (K.state out.old) (K.state out.new) }
+    ensures stops { Stops (showing end) (S.state input.old) (S.state input.new) }
+    ensures causes { Causes result (S.state input.old) (S.state input.new)
+        (K.state out.old) (K.state out.new) }
 {
     run_over(ShowCore::new(alloc, end), input, out)
 }
@@ -105,14 +98,13 @@ pub fn run_show<S: Source, K: Sink>(alloc: Global, end: End, input: &mut S, out:
 /// lines of the messages before it are written, and then the ups of all that is down; at `WriteFault` a
 /// front of these is. No read is made once one answered the end, or once the bytes read decide the end.
 pub fn run_inject<S: Source, K: Sink>(alloc: Global, input: &mut S, out: &mut K) -> Status
-    requires { NotSet (S.ended input.old) }
-    ensures injects { Reads injecting result (S.left input.old) (S.left input.new) (S.ended input.new) (K.taken out.old) (K.taken out.new) }
-    ensures stops { Stops injecting (S.left input.old) (S.left_before input.new) (S.ended_before input.new) }
-    ensures released { Releases result (K.taken out.old) (K.taken out.new) }
-    ensures causes { Causes result (S.faults input.old) (S.faults input.new) (K.faults out.old) (K.faults out.new) }
+    requires { NotSet (S.state input.old).ended }
+    ensures injects { Reads injecting result (S.state input.old) (S.state input.new)
+        (K.state out.old) (K.state out.new) }
+    ensures stops { Stops injecting (S.state input.old) (S.state input.new) }
+    ensures released { Releases result (K.state out.old) (K.state out.new) }
+    ensures causes { Causes result (S.state input.old) (S.state input.new)
+        (K.state out.old) (K.state out.new) }
 {
-    let Ok(core) = ClientCore::injecting(alloc) else {
-        unreachable!()
-    };
-    run_over(core, input, out)
+    run_over(ClientCore::injecting(alloc), input, out)
 }

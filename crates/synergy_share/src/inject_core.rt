@@ -1,12 +1,12 @@
 //! The client of injection as the core of a command.
 
 ghost use Rattle.std.specs.Prelude.{◌≡◌};
-ghost use Rattle.synergy_share.specs.Ways.{status_of};
+ghost use Rattle.synergy_share.specs.Endings.{status_of, client_end_of};
 
 use crate::line_core::LineCore;
 use crate::status::Status;
 use client_core::{ClientCore, ClientEnd, LostCause};
-use share_base::{Lines, OutOfMemory, Reason};
+use share_base::{Lines, Reason};
 
 /// How `inject` ends where its client does.
 fn status(end: ClientEnd) -> Status
@@ -25,21 +25,32 @@ fn status(end: ClientEnd) -> Status
     }
 }
 
-/// What the client is told of the command's end.
-fn client_end(end: Status) -> ClientEnd {
+/// How the client ends where the command does. Where a client has no such end, it lost the stream.
+fn client_end(end: Status) -> ClientEnd
+    ensures { result ≡ client_end_of end }
+{
     match end {
+        Status::Ok => ClientEnd::Bye,
+        Status::Refused(which) => ClientEnd::Refused(which),
         Status::BadFrames { place, reason } => ClientEnd::BadPeer { place, reason },
+        Status::NotYet { place } => ClientEnd::NotYet { place },
+        Status::Lost(cause) => ClientEnd::Lost(cause),
+        Status::TurnsSpent => ClientEnd::TurnsSpent,
+        Status::LinkFault => ClientEnd::LinkFault,
         Status::WriteFault => ClientEnd::WriteFault,
         Status::OutOfMemory => ClientEnd::OutOfMemory,
-        _ => ClientEnd::Lost(LostCause::Ended),
+        Status::BadConfig { .. } | Status::InputTooLong | Status::Usage | Status::ReadFault => {
+            ClientEnd::Lost(LostCause::Ended)
+        }
     }
 }
 
 impl LineCore for ClientCore {
     ghost use Rattle.std.specs.Option.{option_map};
-    ghost use Rattle.client_core.specs.Kept.{Heard, Kept, lines_in};
-    ghost use Rattle.synergy_share.specs.Ways.{injecting, status_of};
-    ghost use Rattle.synergy_share.specs.Injecting.{kept_keeps, kept_heard, heard_prints};
+    ghost use Rattle.client_core.specs.Kept.{lines_in};
+    ghost use Rattle.synergy_share.specs.Ways.{injecting};
+    ghost use Rattle.synergy_share.specs.Endings.{status_of};
+    ghost use Rattle.synergy_share.specs.Injecting.{Injected, injected_keeps};
 
     ghost way = { λ _. injecting };
 
@@ -47,20 +58,15 @@ impl LineCore for ClientCore {
 
     ghost done = { λ core. option_map status_of core.done };
 
-    ghost total = { λ core. core.total };
+    ghost total = { λ core. core.reader.total };
 
-    ghost kept = { Kept };
+    ghost kept = { Injected };
 
-    ghost heard = { Heard };
+    ghost keeps = { injected_keeps };
 
-    ghost keeps = { kept_keeps };
-
-    ghost hears = { kept_heard };
-
-    ghost prints = { heard_prints };
-
-    fn feed(&mut self, piece: &[u8]) -> Result<(), OutOfMemory> {
-        self.bytes(piece)
+    fn feed(&mut self, piece: &[u8]) {
+        // On `OutOfMemory` the client is done, which `status` says.
+        let _ = self.bytes(piece);
     }
 
     fn printed(&self) -> &[u8] {
@@ -79,7 +85,7 @@ impl LineCore for ClientCore {
     }
 
     fn status_at_end(&self) -> Status {
-        match self.begun() {
+        match self.pending() {
             Some(place) => Status::BadFrames {
                 place,
                 reason: Reason::Cut,

@@ -15,7 +15,6 @@ mod laws;
 mod line_core;
 mod real;
 mod show_core;
-mod show_next;
 mod status;
 #[cfg(test)]
 mod tests;
@@ -24,7 +23,7 @@ mod top;
 pub use checking::run_check;
 pub use command::{Command, form};
 pub use commands::{run_inject, run_show};
-pub use laws::{file_decides, one_end, one_reading, refusals_name_lines};
+pub use laws::{file_decides, one_end, refusals_name_lines};
 pub use line_core::LineCore;
 pub use real::{StdFiles, StdSink, StdSource};
 pub use show_core::ShowCore;

@@ -26,15 +26,7 @@ impl<R: Read + Drop> StdSource<R> {
 impl<R: Read + Drop> Source for StdSource<R> {
     ghost use Rattle.std.specs.Prelude.{None};
 
-    ghost left = { λ _. None };
-
-    ghost ended = { λ _. None };
-
-    ghost left_before = { λ _. None };
-
-    ghost ended_before = { λ _. None };
-
-    ghost faults = { λ s. s.faults };
+    ghost state = { λ s. record { left = None; ended = None; left_before = None; ended_before = None; faults = s.faults } };
 
     fn read(&mut self, buf: &mut [u8]) -> SourceAnswer {
         for _ in 0..u64::MAX {
@@ -67,9 +59,7 @@ impl<W: Write + Drop> StdSink<W> {
 impl<W: Write + Drop> Sink for StdSink<W> {
     ghost use Rattle.std.specs.Prelude.{None};
 
-    ghost taken = { λ _. None };
-
-    ghost faults = { λ s. s.faults };
+    ghost state = { λ s. record { taken = None; faults = s.faults } };
 
     /// A write that takes nothing counts as a failure.
     fn write(&mut self, bytes: &[u8]) -> SinkAnswer {
@@ -112,8 +102,8 @@ impl<'a, R: fs::Files> StdFiles<'a, R> {
 /// All that a source gives, as a file of at most `limit` bytes. Of more, one byte past the limit is
 /// read at most.
 fn read_whole<S: Source>(alloc: Global, source: &mut S, limit: u64) -> FileAnswer
-    ensures gives { FileGives result limit (S.left source.old) }
-    ensures faults { FileFaults result (S.faults source.old) (S.faults source.new) }
+    ensures gives { FileGives result limit (S.state source.old).left }
+    ensures faults { FileFaults result (S.state source.old).faults (S.state source.new).faults }
 {
     let mut bytes = Octets::new(alloc);
     let mut buffer = [0u8; 4096];

@@ -1,35 +1,78 @@
 //! The core of `show`.
 
-ghost use Rattle.std.specs.Prelude.{◌≡◌, ◌+◌, ◌≤◌, ◌^◌, ◌<◌, ◌++◌, [], List, ℕ, None, OnErr, OnOk, length};
+ghost use Rattle.std.specs.Prelude.{◌≡◌, ◌+◌, ◌^◌, ◌<◌, ◌++◌, [], None, OnErr, OnOk, length};
+ghost use Rattle.synergy_share.specs.Ways.{shown};
+ghost use Rattle.synergy_share.specs.Shows.{TakesPiece, end_after};
 
 use crate::line_core::LineCore;
-use crate::show_next::{Taken, show_next};
 use crate::status::Status;
-use message_codec::End;
+use message_codec::{End, Msg, show};
+use message_reader::{BadFrame, MessageReader, ReadStep, Role};
 use share_base::{Lines, Octets, OutOfMemory, Reason};
 use std::alloc::Global;
-use wire_frames::{BODY_LIMIT, Framer};
 
 /// Shows a line for each message of an end's stream.
 #[derive(Drop)]
 pub struct ShowCore {
     alloc: Global,
     from: End,
-    framer: Framer,
+    reader: MessageReader,
     lines: Octets,
-    total: u64,
-    place: u64,
     done: Option<Status>,
-    ghost counted: { framer.given + length framer.rest ≤ total },
-    ghost limit: { framer.limit ≡ 4194304 },
+}
+
+// Adds the line of one message.
+fn put_shown(alloc: Global, msg: Msg, lines: &mut Octets) -> Result<(), OutOfMemory>
+    ensures ok { OnOk result (lines.new ≡ lines.old ++ shown msg) }
+    ensures err { OnErr result (lines.new ≡ lines.old) }
+{
+    let start = lines.len();
+    show(alloc, &msg, lines)?;
+    if let Err(error) = lines.push(b'\n') {
+        lines.truncate(start);
+        return Err(error);
+    }
+    Ok(())
+}
+
+// Adds the lines of the next piece's messages, and returns the bad frame that ends them.
+fn show_piece(
+    alloc: Global,
+    reader: &mut MessageReader,
+    lines: &mut Octets,
+    piece: &[u8],
+) -> Result<Option<BadFrame>, OutOfMemory>
+    requires { reader.old.total + length piece.now < 2 ^ 63 }
+    ensures { TakesPiece reader.old reader.new lines.old lines.new result piece.now }
+{
+    reader.feed(piece)?;
+    loop {
+        match reader.next()? {
+            ReadStep::More => return Ok(None),
+            ReadStep::Bad(bad) => return Ok(Some(bad)),
+            ReadStep::Message { place: _, msg } => put_shown(alloc, msg, lines)?,
+        }
+    }
+}
+
+/// How the command has ended after that answer; `None` while it goes on.
+fn status_after(answer: Result<Option<BadFrame>, OutOfMemory>) -> Option<Status>
+    ensures { result ≡ end_after answer }
+{
+    match answer {
+        Ok(None) => None,
+        Ok(Some(BadFrame { place, reason })) => Some(Status::BadFrames { place, reason }),
+        Err(OutOfMemory) => Some(Status::OutOfMemory),
+    }
 }
 
 impl ShowCore {
-    ghost use Rattle.synergy_share.specs.Shower.{Shown};
+    ghost use Rattle.synergy_share.specs.Ways.{showing};
+    ghost use Rattle.synergy_share.specs.Shows.{Shown};
 
-    /// The beginning of a stream of that end's messages.
+    /// Creates the core of a stream of that end's messages.
     pub fn new(alloc: Global, from: End) -> ShowCore
-        ensures kept { Shown result [] [] [] }
+        ensures kept { Shown result (showing from) [] [] [] }
         ensures empty { result.lines ≡ [] }
         ensures goes { result.done ≡ None }
         ensures from { result.from ≡ from }
@@ -37,10 +80,8 @@ impl ShowCore {
         ShowCore {
             alloc,
             from,
-            framer: Framer::new(alloc, BODY_LIMIT),
+            reader: MessageReader::new(alloc, Role::Observer(from)),
             lines: Octets::new(alloc),
-            total: 0,
-            place: 0,
             done: None,
         }
     }
@@ -48,8 +89,7 @@ impl ShowCore {
 
 impl LineCore for ShowCore {
     ghost use Rattle.synergy_share.specs.Ways.{showing};
-    ghost use Rattle.synergy_share.specs.Shower.{Shown};
-    ghost use Rattle.synergy_share.specs.Cores.{Printed};
+    ghost use Rattle.synergy_share.specs.Shows.{Shown, shown_keeps};
 
     ghost way = { λ core. showing core.from };
 
@@ -57,31 +97,15 @@ impl LineCore for ShowCore {
 
     ghost done = { λ core. core.done };
 
-    ghost total = { λ core. core.total };
+    ghost total = { λ core. core.reader.total };
 
     ghost kept = { Shown };
 
-    ghost heard = { λ core messages taken. Printed (showing core.from) core.lines messages taken };
+    ghost keeps = { shown_keeps };
 
-    ghost keeps = { λ core messages rest taken shown. shown.keeps };
-
-    ghost hears = { λ core messages rest taken shown. shown.keeps.printed };
-
-    ghost prints = { λ core messages taken printed. printed };
-
-    fn feed(&mut self, piece: &[u8]) -> Result<(), OutOfMemory> {
-        self.framer.feed(piece)?;
-        self.total += piece.len() as u64;
-        loop {
-            match show_next(self.alloc, self.from, &mut self.framer, &mut self.lines)? {
-                Taken::Line { end } => self.place = end,
-                Taken::More => return Ok(()),
-                Taken::End(status) => {
-                    self.done = Some(status);
-                    return Ok(());
-                }
-            }
-        }
+    fn feed(&mut self, piece: &[u8]) {
+        let answer = show_piece(self.alloc, &mut self.reader, &mut self.lines, piece);
+        self.done = status_after(answer);
     }
 
     fn printed(&self) -> &[u8] {
@@ -97,12 +121,12 @@ impl LineCore for ShowCore {
     }
 
     fn status_at_end(&self) -> Status {
-        if self.place == self.total {
-            return Status::Ok;
-        }
-        Status::BadFrames {
-            place: self.place,
-            reason: Reason::Cut,
+        match self.reader.pending() {
+            Some(place) => Status::BadFrames {
+                place,
+                reason: Reason::Cut,
+            },
+            None => Status::Ok,
         }
     }
 

@@ -24,17 +24,25 @@ pub fn run<F: Files, S: Source, K: Sink>(
     input: &mut S,
     out: &mut K,
 ) -> Status
-    requires { NotSet (S.ended input.old) }
-    ensures does { (command : Form) → Names command words.now → IfSome (way_of command) (λ way. Reads way result (S.left input.old) (S.left input.new) (S.ended input.new) (K.taken out.old) (K.taken out.new)) }
-    ensures stops { (command : Form) → Names command words.now → IfSome (way_of command) (λ way. Stops way (S.left input.old) (S.left_before input.new) (S.ended_before input.new)) }
-    ensures released { Names Inject words.now → Releases result (K.taken out.old) (K.taken out.new) }
-    ensures checks { (config : List ℕ) → Names (Check config) words.now → Checks result (F.told files.old config) (K.taken out.old) (K.taken out.new) }
-    ensures reads_once { (config : List ℕ) → Names (Check config) words.now → ReadsOnce (F.told files.old) (F.told files.new) (F.calls files.old) (F.calls files.new) }
-    ensures overs { (config : List ℕ) → Names (Check config) words.now → OverCounts result (F.overs files.old) (F.overs files.new) }
+    requires { NotSet (S.state input.old).ended }
+    ensures does { (command : Form) → Names command words.now → IfSome (way_of command)
+        (λ way. Reads way result (S.state input.old) (S.state input.new) (K.state out.old) (K.state out.new)) }
+    ensures stops { (command : Form) → Names command words.now → IfSome (way_of command)
+        (λ way. Stops way (S.state input.old) (S.state input.new)) }
+    ensures released { Names Inject words.now → Releases result (K.state out.old) (K.state out.new) }
+    ensures checks { (config : List ℕ) → Names (Check config) words.now
+        → Checks result (F.told files.old config) (K.state out.old) (K.state out.new) }
+    ensures reads_once { (config : List ℕ) → Names (Check config) words.now
+        → ReadsOnce (F.told files.old) (F.told files.new) (F.calls files.old) (F.calls files.new) }
+    ensures overs { (config : List ℕ) → Names (Check config) words.now
+        → OverCounts result (F.overs files.old) (F.overs files.new) }
     ensures usage { NoForm words.now → result ≡ Status.Usage }
-    ensures untouched { NoForm words.now → (files.new ≡ files.old) × (input.new ≡ input.old) × (out.new ≡ out.old) }
-    ensures leaves { (command : Form) → Names command words.now → Leaves command (files.new ≡ files.old) (input.new ≡ input.old) }
-    ensures causes { AllCauses result (F.faults files.old) (F.faults files.new) (S.faults input.old) (S.faults input.new) (K.faults out.old) (K.faults out.new) }
+    ensures untouched { NoForm words.now
+        → (files.new ≡ files.old) × (input.new ≡ input.old) × (out.new ≡ out.old) }
+    ensures leaves { (command : Form) → Names command words.now
+        → Leaves command (files.new ≡ files.old) (input.new ≡ input.old) }
+    ensures causes { AllCauses result (F.faults files.old) (F.faults files.new)
+        (S.state input.old) (S.state input.new) (K.state out.old) (K.state out.new) }
 {
     match form(words) {
         Some(Command::Inject) => run_inject(alloc, input, out),

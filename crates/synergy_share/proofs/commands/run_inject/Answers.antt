@@ -3,4 +3,4 @@ use Rattle.synergy_share.proofs.commands.run_inject.Goals as goal
 
 pub returns-clause-released : goal.returns-clause-released
 returns-clause-released g c =
-    releases_all c.run_over.result (g.S.Source.left c.args.input.now) (g.S.Source.left c.run_over.new.input) (g.K.Sink.taken c.args.out.now) (g.K.Sink.taken c.run_over.new.out) (g.S.Source.ended c.run_over.new.input) c.run_over.ensures.reads
+    releases_all c.run_over.result (g.S.Source.state c.args.input.now) (g.S.Source.state c.run_over.new.input) (g.K.Sink.state c.args.out.now) (g.K.Sink.state c.run_over.new.out) c.run_over.ensures.reads

@@ -6,8 +6,8 @@ use Rattle.synergy_share.proofs.real.read_whole.Given as goal
 abbrev pub invariant-loop-bytes : goal.invariant-loop-bytes
 invariant-loop-bytes g l = record {
   within : length l.bytes ≤ l.limit;
-  given : g.S.Source.left l.fn.source ≡ before l.bytes (g.S.Source.left l.source);
-  faults : g.S.Source.faults l.source ≡ g.S.Source.faults l.fn.source;
+  given : (g.S.Source.state l.fn.source).left ≡ before l.bytes (g.S.Source.state l.source).left;
+  faults : (g.S.Source.state l.source).faults ≡ (g.S.Source.state l.fn.source).faults;
 }
 
 abbrev pub decreases-loop-bytes : goal.decreases-loop-bytes

@@ -1,8 +1,13 @@
-use Rattle.synergy_share.proofs.Injection.{inside, between}
+use Rattle.std.proofs.Common.{Some, None, refl}
+use Rattle.synergy_share.proofs.Injection.{goes_on, ends_input}
 use Rattle.synergy_share.proofs.inject_core.ClientCoreLineCore.status_at_end.Goals as goal
 
 pub returns-in-Some : goal.returns-in-Some
-returns-in-Some c messages rest taken k = inside c.args.self.now.done messages rest c.in-Some.place c.requires (c.in-Some.ensures messages rest taken k)
+returns-in-Some c =
+    let none = goes_on c.args.self.now.done c.requires in
+    ends_input c.args.self.now (Some c.in-Some.place) _ none (c.in-Some.ensures.goes none) refl
 
 pub returns-in-None : goal.returns-in-None
-returns-in-None c messages rest taken k = between c.args.self.now.done messages rest c.requires (c.in-None.ensures messages rest taken k)
+returns-in-None c =
+    let none = goes_on c.args.self.now.done c.requires in
+    ends_input c.args.self.now None _ none (c.in-None.ensures.goes none) refl
