@@ -27,6 +27,7 @@ INPUT_LIMIT = 1 << 30
 CONFIG_LIMIT = 1 << 20
 BODY_LIMIT = 4 << 20
 FULL = "/dev/full"
+STREAMS = ("stdin", "stdout", "stderr")
 
 
 def frame(code, fields=""):
@@ -256,7 +257,7 @@ def feed(pipe, case):
             pass
 
 
-def run(program, case, folder):
+def ended(program, case, folder):
     """The exit code, the bytes on standard error and the output of one run."""
     given = {name: opened(getattr(case, name), os.O_RDONLY if name == "stdin" else os.O_WRONLY) for name in STREAMS}
     with tempfile.TemporaryFile() as output, tempfile.TemporaryFile() as error:
@@ -287,9 +288,6 @@ def run(program, case, folder):
         return code, error.read(), output.read()
 
 
-STREAMS = ("stdin", "stdout", "stderr")
-
-
 def differences(case, code, error, output):
     """What a run has that the case has not."""
     line = f"{case.line}\n".encode() if case.line else b""
@@ -301,26 +299,28 @@ def differences(case, code, error, output):
         yield f"the output has {output[:200]!r} and not {case.output[:200]!r}"
 
 
-def main(word=""):
+def run(word=""):
     """Runs the cases on each build that is there. Returns how many passed and failed."""
-    programs = [program for program in PROGRAMS if os.access(program, os.X_OK)]
-    if not programs:
-        print("the program is not built: ./synergy-share builds it")
-        return 0, 1
     passed = failed = 0
     with tempfile.TemporaryDirectory() as folder:
         for name, text in FILES.items():
             (pathlib.Path(folder) / name).write_bytes(text)
-        for program in programs:
+        for program in filter(is_built, PROGRAMS):
             for case in (case for case in CASES if word in case.name):
-                found = list(differences(case, *run(program, case, folder)))
+                found = list(differences(case, *ended(program, case, folder)))
                 for why in found:
                     print(f"{program.name}: {case.name}: {why}")
                 passed, failed = passed + (not found), failed + bool(found)
+    if passed + failed == 0:
+        print("no case was run: ./synergy-share builds the program")
+        failed = 1
+    print(f"program: {passed} passed, {failed} failed")
     return passed, failed
 
 
+def is_built(program):
+    return os.access(program, os.X_OK)
+
+
 if __name__ == "__main__":
-    passed, failed = main(*sys.argv[1:2])
-    print(f"program: {passed} passed, {failed} failed")
-    sys.exit(1 if failed or not passed else 0)
+    sys.exit(1 if run(*sys.argv[1:2])[1] else 0)

@@ -2,7 +2,7 @@
 use Rattle.std.specs.Prelude.{◌≡◌, ℕ, ◌+◌, ◌-◌, ◌<◌, Bool, true, false, ◌&&◌, nat_lt, nat_le, if◌then◌else◌, List, [], ◌∷◌, Option, Some, None}
 use Rattle.share_base.specs.declared.shape.Side.{Side}
 use Rattle.share_base.specs.Shapes.{same_side}
-use Rattle.share_base.specs.Moments.{moment}
+use Rattle.share_base.specs.Moments.{moment_of}
 use Rattle.edge_cross.specs.declared.gate.GateAnswer.{GateAnswer}
 use Rattle.edge_cross.specs.declared.gate.GateAnswer.TheVariants.{Pass, Wait, Stay}
 use Rattle.edge_cross.specs.declared.gate.Waiting.{Waiting}
@@ -16,7 +16,7 @@ pub data Call : Type 0 where
 
 -- an ask at a number of milliseconds, which counts as a moment
 abbrev pub asked : ℕ → Side → Call
-asked now side = Ask (moment now) side
+asked now side = Ask (moment_of now) side
 
 -- ---- a double tap within `time`
 
@@ -94,7 +94,7 @@ Forgets old new = (delay time : ℕ) (calls : List Call) → Represents old dela
 abbrev pub Answers : Gate → ℕ → Side → GateAnswer → Type 0
 Answers gate now side answer =
     (delay time : ℕ) (calls : List Call) → Represents gate delay time calls
-    → answer ≡ gate_answer delay time calls (moment now) side
+    → answer ≡ gate_answer delay time calls (moment_of now) side
 
 abbrev pub Waits : Gate → Option Waiting → Type 0
 Waits gate wait = (delay time : ℕ) (calls : List Call) → Represents gate delay time calls → wait ≡ gate_wait delay time calls

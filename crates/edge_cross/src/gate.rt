@@ -5,7 +5,7 @@ ghost use Rattle.share_base.specs.Moments.{last_moment};
 ghost use Rattle.edge_cross.specs.Gates as spec;
 ghost use Rattle.edge_cross.specs.Gates.{Away, Represents, Hears, Forgets, Answers, Waits, asked};
 
-use share_base::{Side, moment};
+use share_base::{Side, moment_of};
 
 /// The answer to a motion that passes an edge.
 #[derive(Clone, Copy, Debug, PartialEq, Eq)]
@@ -71,7 +71,7 @@ impl Gate {
         ensures answers { Answers self.old now side result }
         ensures hears { Hears self.old self.new (asked now side) }
     {
-        let now = moment(now);
+        let now = moment_of(now);
         if self.tap > 0 {
             if repeats(self.tap, self.tapped, now, side) {
                 return if self.was_away {

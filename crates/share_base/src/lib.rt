@@ -38,7 +38,7 @@ pub use lines::Lines;
 pub use memory_files::{MemoryFiles, NamedFile};
 pub use memory_sink::MemorySink;
 pub use memory_source::MemorySource;
-pub use moments::{LAST_MOMENT, moment};
+pub use moments::{LAST_MOMENT, moment_of};
 pub use numbers::{Button, KeyId, Mask, MouseButton, RuleNo, ScreenNo};
 pub use octets::Octets;
 pub use out_of_memory::OutOfMemory;
