@@ -16,6 +16,7 @@ mod fixed_buffer;
 mod memory_files;
 mod memory_sink;
 mod memory_source;
+mod moments;
 mod numbers;
 mod octets;
 mod out_of_memory;
@@ -39,6 +40,7 @@ pub use fixed_buffer::{FixedBuffer, LINES_CAPACITY, Lines, SHORT_LINE_CAPACITY, 
 pub use memory_files::{MemoryFiles, NamedFile};
 pub use memory_sink::MemorySink;
 pub use memory_source::MemorySource;
+pub use moments::{LAST_MOMENT, moment_of};
 pub use numbers::{Button, KeyId, Mask, MouseButton, RuleNo, ScreenNo};
 pub use octets::Octets;
 pub use out_of_memory::OutOfMemory;
