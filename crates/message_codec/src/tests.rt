@@ -37,13 +37,13 @@ fn passes(alloc: Global, row: &Row) -> Result<bool, Fail> {
     }
     let msg = decode(alloc, row.from, row.body)?;
     let mut line = Octets::new(alloc);
-    show(alloc, &msg, &mut line)?;
+    show(&msg, &mut line)?;
     let len = body_len(&msg);
     if len > 4_194_304 {
         return Ok(false);
     }
     let mut body = Octets::new(alloc);
-    encode(alloc, &msg, &mut body)?;
+    encode(&msg, &mut body)?;
     Ok(len == row.body.len() as u64 && line.as_slice() == row.line && body.as_slice() == row.body)
 }
 
