@@ -93,7 +93,8 @@ fn put_body(out: &mut Octets, msg: &Msg) -> Result<(), OutOfMemory>
 pub fn encode(msg: &Msg, out: &mut Octets) -> Result<(), OutOfMemory>
     requires { length (body_of msg.now) ≤ BODY_LIMIT }
     ensures ok { OnOk result (out.new ≡ out.old ++ body_of msg.now) }
-    ensures spelled { OnOk result ((from : End) → SentBy (code_of msg.now) from → Spells from msg.now (body_of msg.now)) }
+    ensures spelled { OnOk result ((from : End)
+        → SentBy (code_of msg.now) from → Spells from msg.now (body_of msg.now)) }
     ensures err { OnErr result (out.new ≡ out.old) }
 {
     let start = out.len();

@@ -62,7 +62,8 @@ fn put_hex(out: &mut Octets, bytes: &[u8]) -> Result<(), OutOfMemory>
 
 // Appends a blank and each number in turn. On an error a front of them may stand there.
 fn put_words(out: &mut Octets, words: &[u32]) -> Result<(), OutOfMemory>
-    ensures ok { OnOk result (out.new ≡ out.old ++ flat_map (λ n. after_blank (decimal n)) words.now) }
+    ensures ok { OnOk result (out.new
+        ≡ out.old ++ flat_map (λ n. after_blank (decimal n)) words.now) }
     ensures err { OnErr result (IsFront out.old out.new) }
 {
     for word in words {
