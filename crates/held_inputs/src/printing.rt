@@ -4,10 +4,11 @@ ghost use Rattle.std.specs.Prelude.{◌≡◌, ◌≤◌, ◌<◌, ◌+◌, ◌*
 ghost use Rattle.std.specs.Int.{w32, to_be_bytes};
 ghost use Rattle.std.specs.Fmt.{decimal, signed_decimal};
 ghost use Rattle.held_inputs.specs.Line.{line_of, room_of, text};
-ghost use Rattle.message_codec.specs.Showing.{hex_digit, hex, after_blank};
+ghost use Rattle.share_base.specs.Hex.{hex};
+ghost use Rattle.message_codec.specs.Showing.{after_blank};
 
 use crate::line::Line;
-use share_base::{Buffer, put_i16, put_u16, put_u32};
+use share_base::{Buffer, hex_pair, put_i16, put_u16, put_u32};
 
 /// The longest line of a message other than an option or a clipboard, in bytes.
 pub const LONGEST_LINE: usize = 37;
@@ -156,17 +157,6 @@ fn put_hex<B: Buffer>(lines: &mut B, bytes: &[u8])
         return;
     }
     for byte in bytes {
-        lines.extend(&[hex_digit(*byte / 16), hex_digit(*byte % 16)]);
-    }
-}
-
-fn hex_digit(number: u8) -> u8
-    requires { number < 16 }
-    ensures { result ≡ hex_digit number }
-{
-    if number < 10 {
-        b'0' + number
-    } else {
-        b'a' + (number - 10)
+        lines.extend(&hex_pair(*byte));
     }
 }

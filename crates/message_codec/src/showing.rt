@@ -4,13 +4,14 @@ ghost use Rattle.std.specs.Prelude.{◌≡◌, ◌<◌, ◌++◌, OnOk, OnErr};
 ghost use Rattle.std.specs.List.{flat_map};
 ghost use Rattle.std.specs.Fmt.{decimal, signed_decimal};
 ghost use Rattle.message_codec.specs.Table.{fields};
-ghost use Rattle.message_codec.specs.Showing.{hex_digit, hex, after_blank, shown, show_line};
+ghost use Rattle.message_codec.specs.Showing.{after_blank, shown, show_line};
 ghost use Rattle.message_codec.specs.Seen.{seen};
 ghost use Rattle.share_base.specs.Fronts.{IsFront};
+ghost use Rattle.share_base.specs.Hex.{hex};
 
 use crate::fields::{FieldRef, code, count, field};
 use crate::messages::Msg;
-use share_base::{Buffer, Octets, OutOfMemory, ShortLine, put_i16, put_u64};
+use share_base::{Buffer, Octets, OutOfMemory, ShortLine, hex_pair, put_i16, put_u64};
 
 // Appends a blank and a number.
 fn put_number(out: &mut Octets, number: u64) -> Result<(), OutOfMemory>
@@ -34,17 +35,6 @@ fn put_signed(out: &mut Octets, number: i16) -> Result<(), OutOfMemory>
     out.extend(text.as_slice())
 }
 
-fn hex_digit(number: u8) -> u8
-    requires { number < 16 }
-    ensures { result ≡ hex_digit number }
-{
-    if number < 10 {
-        b'0' + number
-    } else {
-        b'a' + (number - 10)
-    }
-}
-
 // Appends a blank and the digits of bytes. On an error a front of them may stand there.
 fn put_hex(out: &mut Octets, bytes: &[u8]) -> Result<(), OutOfMemory>
     ensures ok { OnOk result (out.new ≡ out.old ++ after_blank (hex bytes.now)) }
@@ -55,7 +45,7 @@ fn put_hex(out: &mut Octets, bytes: &[u8]) -> Result<(), OutOfMemory>
     }
     out.push(b' ')?;
     for byte in bytes {
-        out.extend(&[hex_digit(*byte / 16), hex_digit(*byte % 16)])?;
+        out.extend(&hex_pair(*byte))?;
     }
     Ok(())
 }
