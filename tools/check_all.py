@@ -3,10 +3,11 @@
 
 import sys
 
+import check_paths
 import check_program
 import check_promises
 
-CHECKS = (check_promises, check_program)
+CHECKS = (check_promises, check_paths, check_program)
 
 
 def main():

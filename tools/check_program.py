@@ -20,6 +20,8 @@ OUT = TOP / "crates" / "synergy_share" / "out"
 # The gate builds the program twice; the second build is compared only there.
 PROGRAMS = [OUT / "synergy_share", OUT / "synergy_share.by-rattle"]
 EXAMPLES = TOP / "examples"
+# How the command of an example ends, unless with 0 and no line.
+EXAMPLE_ENDS = {("keys", "inject"): (9, "lost ended")}
 SECONDS = 120
 
 KIB = 1 << 10
@@ -130,12 +132,15 @@ def check(name, file, code, line="", output=b"", **how):
     return Case(f"check: {name}", ["check", file], code, line, output, **how)
 
 
-def example(words, stem, code, line="", suffix=".bin"):
-    """A file of examples/ and the output that stands beside it."""
-    output = (EXAMPLES / f"{stem}.{words[0]}.out").read_bytes()
-    if words[0] == "check":
-        return Case(f"example {stem}", [*words, str(EXAMPLES / f"{stem}.conf")], code, line, output)
-    return Case(f"example {stem}: {words[0]}", words, code, line, output, (EXAMPLES / f"{stem}.bin").read_bytes())
+def examples():
+    """Each output that stands beside a file of examples/, as NAME.COMMAND.out, with how the command ends."""
+    for output in sorted(EXAMPLES.glob("*.*.out")):
+        name, command, _ = output.name.split(".")
+        code, line = EXAMPLE_ENDS.get((name, command), (0, ""))
+        stream, config = EXAMPLES / f"{name}.bin", EXAMPLES / f"{name}.conf"
+        words = {"inject": ["inject"], "show": ["show", "server"], "check": ["check", str(config)]}[command]
+        given = b"" if command == "check" else stream.read_bytes()
+        yield Case(f"example {output.name}", words, code, line, output.read_bytes(), given)
 
 
 def past_the_limit():
@@ -212,12 +217,7 @@ CASES = [
     check("a section that stays open", "unclosed.conf", 1, "config 1 1 UnclosedSection"),
     check("an alias without a header", "no header.conf", 1, "config 2 2 BadLine"),
     check("a control character", "control.conf", 1, "config 2 3 BadLine"),
-    # The examples, with what stands beside them.
-    example(["inject"], "motion", 0),
-    example(["show", "server"], "motion", 0),
-    example(["inject"], "keys", 9, "lost ended"),
-    example(["show", "server"], "keys", 0),
-    example(["check"], "three-desks", 0),
+    *examples(),
 ]
 
 
