@@ -5,10 +5,21 @@
 //!
 //! It owns the phases (`specs/Phases.antt`), the causes of parting (`specs/Causes.antt`) and what an
 //! answer to the greeting and a screen's information come to (`specs/Handshake.antt`). It may know no
-//! stream, no queue and no other connection: which screens are used is told by the caller. No call
-//! allocates.
+//! stream, no queue and no other connection: the caller says which screens are used. No call allocates.
 #![tactic(auto)]
 
+mod asked;
+mod greeting;
+mod info_fields;
+mod joined;
 mod part_cause;
+mod parting;
+#[cfg(test)]
+mod tests;
 
+pub use asked::{Asked, Informed};
+pub use greeting::{Answered, Greeting};
+pub use info_fields::InfoFields;
+pub use joined::Joined;
 pub use part_cause::{PROTOCOL_MAJOR, PROTOCOL_MINOR, PartCause};
+pub use parting::Parting;
