@@ -1,8 +1,9 @@
 //! What a screen tells of itself.
 
 ghost use Rattle.std.specs.Prelude.{◌≡◌, IfSome};
+ghost use Rattle.std.specs.Bool.{OnTrue};
 ghost use Rattle.share_base.specs.Shapes.{IsScreenShape};
-ghost use Rattle.hello_states.specs.Handshake.{is_span};
+ghost use Rattle.hello_states.specs.Handshake.{is_span, IsSpan};
 ghost use Rattle.hello_states.specs.Informing.{shape_in};
 
 use share_base::Shape;
@@ -53,7 +54,8 @@ impl InfoFields {
 
 /// Tells whether a screen may have that many pixels from the first one on.
 fn is_span(first: i16, count: u16) -> bool
-    ensures { result ≡ is_span first count }
+    ensures answer { result ≡ is_span first count }
+    ensures span { OnTrue result (IsSpan first count) }
 {
     count >= 1 && count <= MOST_PIXELS && first as i32 + count as i32 <= COORDINATES_END
 }
