@@ -2,8 +2,8 @@
 use Rattle.std.specs.Prelude.{ℕ, List, Result, Ok, Err}
 use Rattle.share_base.specs.declared.numbers.ScreenNo.{ScreenNo}
 use Rattle.share_base.specs.Screens.{has}
-use Rattle.config_text.specs.Configurations.{Configuration, screen_of}
-use Rattle.config_text.specs.Globals.{globals_of}
+use Rattle.screen_config.specs.Configurations.{Configuration, screen_of}
+use Rattle.screen_config.specs.Globals.{globals_of}
 use Rattle.hello_states.specs.declared.part_cause.PartCause.{PartCause}
 use Rattle.hello_states.specs.declared.greeting.Answered.{Answered}
 use Rattle.hello_states.specs.declared.greeting.Answered.TheVariants as answered

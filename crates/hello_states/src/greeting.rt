@@ -10,7 +10,7 @@ ghost use Rattle.hello_states.specs.Answering.{answer_under, rate_under, answer_
 use crate::asked::Asked;
 use crate::part_cause::{PROTOCOL_MAJOR, PROTOCOL_MINOR, PartCause};
 use crate::parting::Parting;
-use config_text::Config;
+use screen_config::Config;
 use keepalive_clock::moment_of;
 use share_base::{ScreenNo, ScreenSet};
 use std::marker::Model;
@@ -124,7 +124,7 @@ fn admitted_screen(
     if !is_admitted(major, minor) {
         return Err(PartCause::Version);
     }
-    let _count = config.count();
+    config.assure_sound();
     let Some(screen) = config.find(name) else {
         return Err(PartCause::Unknown);
     };
