@@ -10,8 +10,8 @@ ghost use Rattle.hello_states.specs.Answering.{answer_under, rate_under, answer_
 use crate::asked::Asked;
 use crate::part_cause::{PROTOCOL_MAJOR, PROTOCOL_MINOR, PartCause};
 use crate::parting::Parting;
-use screen_config::Config;
 use keepalive_clock::moment_of;
+use screen_config::Config;
 use share_base::{ScreenNo, ScreenSet};
 use std::marker::Model;
 
