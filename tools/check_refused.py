@@ -1,12 +1,12 @@
 #!/usr/bin/env python3
-"""Compiles the programs that must not compile, and compares where and why they are refused.
+"""Compiles the programs that must not compile, and compares the lines and the reasons of their refusals.
 
     tools/check_refused.py [WORD]
 
-With a WORD, only the programs whose path contains it are compiled. A program is a file
-crates/NAME/must-not-compile/*.rs over the crate NAME and the libraries that crates.txt names for it. A line
-that the compiler has to refuse ends in `//~` and what the compiler says of it. Every other line has to pass,
-so the calls that are allowed stand in the program too. Nothing is proved, so this takes seconds.
+With a WORD, only the programs with that word in their path are compiled. A program is a file
+crates/NAME/must-not-compile/*.rs, which uses the crate NAME and the libraries that crates.txt lists for it.
+A line that the compiler must refuse ends in `//~` and the compiler's words. All other lines must compile: the
+program also makes the calls that are allowed. Nothing is proved, so a program takes 5 to 11 seconds.
 """
 
 import pathlib
@@ -84,9 +84,9 @@ def faults(program):
             yield f"line {number} is refused in other words: {found[number]}"
 
 
-def main():
-    word = sys.argv[1] if len(sys.argv) > 1 else ""
-    passed, failed = 0, 0
+def run(word=""):
+    """Compiles the programs. Returns how many were refused as they say, and how many were not."""
+    passed = failed = 0
     for program in sorted(TOP.glob("crates/*/must-not-compile/*.rs")):
         name = str(program.relative_to(TOP))
         if word not in name:
@@ -95,9 +95,10 @@ def main():
         for fault in found:
             print(f"{name}: {fault}")
         passed, failed = passed + (not found), failed + bool(found)
-    print(f"programs that must not compile: {passed} passed, {failed} failed")
-    return 1 if failed or passed == 0 else 0
+    print(f"refused programs: {passed} passed, {failed} failed")
+    return passed, failed
 
 
 if __name__ == "__main__":
-    sys.exit(main())
+    passed, failed = run(*sys.argv[1:2])
+    sys.exit(1 if failed or not passed else 0)

@@ -1,7 +1,7 @@
 -- What each phase becomes: by the answer to the greeting, by a screen's information, and by a cause of parting.
 use Rattle.std.specs.Prelude.{ℕ, ℤ, pos, ◌+ℤ◌, int_le, Bool, ◌&&◌, ◌==◌, nat_le, if◌then◌else◌, Option, Some, None}
 use Rattle.share_base.specs.declared.shape.Shape.{Shape}
-use Rattle.keepalive_clock.specs.Moments.{moment_of}
+use Rattle.share_base.specs.Moments.{moment_of}
 use Rattle.keepalive_clock.specs.KeepAlive as keep_alive
 use Rattle.hello_states.specs.declared.part_cause.PartCause.{PartCause}
 use Rattle.hello_states.specs.declared.part_cause.PartCause.TheVariants as cause

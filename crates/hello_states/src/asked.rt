@@ -1,7 +1,7 @@
 //! A connection that answered as a screen and is to tell its shape.
 
 ghost use Rattle.std.specs.Prelude.{◌≡◌, ◌≤◌, ◌<◌};
-ghost use Rattle.keepalive_clock.specs.Moments.{last_moment};
+ghost use Rattle.share_base.specs.Moments.{last_moment};
 ghost use Rattle.hello_states.specs.Phases.{Asked as in_asked};
 ghost use Rattle.hello_states.specs.Kept.{asked_phase, parting_phase};
 ghost use Rattle.hello_states.specs.Handshake.{parting_for, asked_after_info};
@@ -11,8 +11,8 @@ use crate::info_fields::InfoFields;
 use crate::joined::Joined;
 use crate::part_cause::PartCause;
 use crate::parting::Parting;
-use keepalive_clock::{Alive, moment_of};
-use share_base::ScreenNo;
+use keepalive_clock::Alive;
+use share_base::{ScreenNo, moment_of};
 use std::marker::Model;
 
 /// A connection that was admitted as a screen and was asked for the screen's information. It keeps the
@@ -36,7 +36,7 @@ pub enum Informed {
 
 impl Model for Asked {
     ghost use Rattle.std.specs.Prelude.{◌≤◌, ◌<◌};
-    ghost use Rattle.keepalive_clock.specs.Moments.{last_moment};
+    ghost use Rattle.share_base.specs.Moments.{last_moment};
     ghost use Rattle.hello_states.specs.Kept.{AskedParts};
 
     ghost Value = { AskedParts };

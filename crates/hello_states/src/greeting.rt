@@ -2,7 +2,7 @@
 
 ghost use Rattle.std.specs.Prelude.{◌≡◌, ◌≤◌, ◌<◌, IfOk};
 ghost use Rattle.share_base.specs.Screens.{has};
-ghost use Rattle.keepalive_clock.specs.Moments.{last_moment};
+ghost use Rattle.share_base.specs.Moments.{last_moment};
 ghost use Rattle.hello_states.specs.Kept.{greeting_phase, parting_phase};
 ghost use Rattle.hello_states.specs.Handshake.{greeting_at, parting_for, after_hello, is_admitted};
 ghost use Rattle.hello_states.specs.Answering.{answer_under, rate_under, answer_of, phase_answered, serial_answered};
@@ -10,9 +10,8 @@ ghost use Rattle.hello_states.specs.Answering.{answer_under, rate_under, answer_
 use crate::asked::Asked;
 use crate::part_cause::{PROTOCOL_MAJOR, PROTOCOL_MINOR, PartCause};
 use crate::parting::Parting;
-use keepalive_clock::moment_of;
 use screen_config::Config;
-use share_base::{ScreenNo, ScreenSet};
+use share_base::{ScreenNo, ScreenSet, moment_of};
 use std::marker::Model;
 
 /// A connection that was accepted and greeted, and whose answer is awaited.
@@ -33,7 +32,7 @@ pub enum Answered {
 
 impl Model for Greeting {
     ghost use Rattle.std.specs.Prelude.{◌≤◌};
-    ghost use Rattle.keepalive_clock.specs.Moments.{last_moment};
+    ghost use Rattle.share_base.specs.Moments.{last_moment};
     ghost use Rattle.hello_states.specs.Kept.{GreetingParts};
 
     ghost Value = { GreetingParts };

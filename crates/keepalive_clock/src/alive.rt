@@ -3,7 +3,7 @@
 ghost use Rattle.std.specs.Prelude.{◌≡◌};
 ghost use Rattle.keepalive_clock.specs.KeepAlive.{beat_moment, death_moment, due_moment, death_of, is_beat_due, is_dead, after_beat, after_hearing};
 
-use crate::moments::moment_of;
+use share_base::moment_of;
 
 /// How many rates may pass without a message of the peer.
 const RATES_UNTIL_DEATH: u64 = 3;

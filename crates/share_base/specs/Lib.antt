@@ -3,6 +3,7 @@ pub mod Told
 pub mod Reading
 pub mod Writing
 pub mod Memory
+pub mod Moments
 pub mod Clips
 pub mod Reasons
 pub mod Names

@@ -1,4 +1,4 @@
--- Edges that are passed, and edges that are not, axis by axis.
+-- The edges that a point passes on each axis.
 use Rattle.std.proofs.Common.{◌≡◌, ℕ, ℤ, pos, ◌+ℤ◌, ◌<ℤ◌, ◌≤ℤ◌, Some, sym, ◌∙◌, subst}
 use Rattle.share_base.specs.declared.shape.Shape.{Shape}
 use Rattle.share_base.specs.declared.shape.Side.{Side}

@@ -1,11 +1,11 @@
--- Counting pixels with signed numbers of four bytes.
+-- Pixels counted with signed 32-bit numbers.
 use Rattle.std.proofs.Common.{◌≡◌, ℕ, ℤ, pos, negsuc, ◌+ℤ◌, ◌-ℤ◌, ◌<ℤ◌, ◌≤ℤ◌, ap, ◌∙◌, arith, w32, to_z, of_z, FitsSigned}
 use Rattle.std.specs.Prelude.{unsigned_abs}
 use Rattle.std.specs.Int.{int_min, int_max}
 use Rattle.std.proofs.lemmas.Int.{ints, to_z-of_z}
 use Rattle.edge_cross.specs.Edges.{along}
 
--- what a number is after it went through its four bytes
+-- a number after it was stored in 32 bits
 abbrev pub stored : ℤ → ℤ
 stored z = to_z w32 (of_z w32 z)
 
@@ -32,7 +32,7 @@ last_pixel first size first_is size_is from some upto =
 within : (r first size d : ℤ) → d ≡ r -ℤ first → r ≤ℤ ((first +ℤ size) -ℤ pos 1) → d <ℤ size
 within r first size d d_is high = omega (arith, ints)
 
--- the nearest pixel, as it is computed, counted from the first
+-- the nearest pixel as it is computed, counted from the first one
 pub counted_from : (at first size r : ℤ) → stored at ≡ at → stored first ≡ first → stored size ≡ size → stored r ≡ r → negsuc 32767 ≤ℤ first → pos 1 ≤ℤ size → size ≤ℤ pos 32767 → (first +ℤ size) ≤ℤ pos 32768
     → r ≡ int_max (stored first) (int_min (stored at) (stored (stored (stored first +ℤ stored size) -ℤ pos 1))) → stored first ≤ℤ r → r ≤ℤ stored (stored (stored first +ℤ stored size) -ℤ pos 1)
     → (pos (unsigned_abs (stored (stored r -ℤ stored first))) ≡ along at first size) × (pos (unsigned_abs (stored (stored r -ℤ stored first))) <ℤ size)
@@ -46,7 +46,7 @@ counted_from at first size r at_is first_is size_is r_is from some small upto va
     let apart : pos (unsigned_abs (stored (stored r -ℤ stored first))) ≡ r -ℤ first = difference r first r_is first_is low' (omega (arith, ints)) in
     (apart ∙ ap (λ (v : ℤ). v -ℤ first) nearest, within r first size _ apart high')
 
--- numbers that were passed on count as themselves
+-- stored arguments count as themselves
 pub along_stored : (at first size : ℤ) (p : ℕ) → stored at ≡ at → stored first ≡ first → stored size ≡ size → pos p ≡ along (stored at) (stored first) (stored size) → pos p ≡ along at first size
 along_stored at first size p at_is first_is size_is value =
     value ∙ ap (λ (a : ℤ). along a (stored first) (stored size)) at_is ∙ ap (λ (b : ℤ). along at b (stored size)) first_is ∙ ap (λ (n : ℤ). along at first n) size_is
