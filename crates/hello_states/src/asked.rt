@@ -3,9 +3,9 @@
 ghost use Rattle.std.specs.Prelude.{◌≡◌, ◌≤◌, ◌<◌};
 ghost use Rattle.share_base.specs.Moments.{last_moment};
 ghost use Rattle.hello_states.specs.Phases.{Asked as in_asked};
-ghost use Rattle.hello_states.specs.Kept.{asked_phase, parting_phase};
+ghost use Rattle.hello_states.specs.TypedPhases.{asked_phase, parting_phase};
 ghost use Rattle.hello_states.specs.Handshake.{parting_for, asked_after_info};
-ghost use Rattle.hello_states.specs.Informing.{shape_in, phase_informed, serial_informed};
+ghost use Rattle.hello_states.specs.Information.{shape_in, phase_informed, serial_informed};
 
 use crate::info_fields::InfoFields;
 use crate::joined::Joined;
@@ -37,7 +37,7 @@ pub enum Informed {
 impl Model for Asked {
     ghost use Rattle.std.specs.Prelude.{◌≤◌, ◌<◌};
     ghost use Rattle.share_base.specs.Moments.{last_moment};
-    ghost use Rattle.hello_states.specs.Kept.{AskedParts};
+    ghost use Rattle.hello_states.specs.TypedPhases.{AskedParts};
 
     ghost Value = { AskedParts };
 

@@ -3,13 +3,14 @@
 ghost use Rattle.std.specs.Prelude.{◌≡◌, ◌≤◌, ◌<◌, IfOk};
 ghost use Rattle.share_base.specs.Screens.{has};
 ghost use Rattle.share_base.specs.Moments.{last_moment};
-ghost use Rattle.hello_states.specs.Kept.{greeting_phase, parting_phase};
-ghost use Rattle.hello_states.specs.Handshake.{greeting_at, parting_for, after_hello, is_admitted};
-ghost use Rattle.hello_states.specs.Answering.{answer_under, rate_under, answer_of, phase_answered, serial_answered};
+ghost use Rattle.hello_states.specs.TypedPhases.{greeting_phase, parting_phase};
+ghost use Rattle.hello_states.specs.Handshake.{greeting_at, parting_for, after_hello};
+ghost use Rattle.hello_states.specs.Answers.{answer_under, rate_under, answer_of, phase_answered, serial_answered};
 
 use crate::asked::Asked;
-use crate::part_cause::{PROTOCOL_MAJOR, PROTOCOL_MINOR, PartCause};
+use crate::part_cause::PartCause;
 use crate::parting::Parting;
+use crate::version::is_admitted;
 use screen_config::Config;
 use share_base::{ScreenNo, ScreenSet, moment_of};
 use std::marker::Model;
@@ -33,7 +34,7 @@ pub enum Answered {
 impl Model for Greeting {
     ghost use Rattle.std.specs.Prelude.{◌≤◌};
     ghost use Rattle.share_base.specs.Moments.{last_moment};
-    ghost use Rattle.hello_states.specs.Kept.{GreetingParts};
+    ghost use Rattle.hello_states.specs.TypedPhases.{GreetingParts};
 
     ghost Value = { GreetingParts };
 
@@ -131,10 +132,4 @@ fn admitted_screen(
         return Err(PartCause::Busy);
     }
     Ok(screen)
-}
-
-fn is_admitted(major: u16, minor: u16) -> bool
-    ensures { result ≡ is_admitted major minor }
-{
-    major == PROTOCOL_MAJOR && minor == PROTOCOL_MINOR
 }

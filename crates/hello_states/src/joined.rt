@@ -4,10 +4,10 @@ ghost use Rattle.std.specs.Prelude.{◌≡◌, ◌<◌};
 ghost use Rattle.std.specs.Borrow.{sem};
 ghost use Rattle.share_base.specs.Shapes.{IsScreenShape};
 ghost use Rattle.hello_states.specs.Phases.{Joined as in_joined};
-ghost use Rattle.hello_states.specs.Kept.{joined_phase, parting_phase};
+ghost use Rattle.hello_states.specs.TypedPhases.{joined_phase, parting_phase};
 ghost use Rattle.hello_states.specs.Handshake.{parting_for, joined_after_info};
-ghost use Rattle.hello_states.specs.Informing.{shape_in, phase_informed, serial_informed};
-ghost use Rattle.hello_states.specs.Lending.{LendsAlive};
+ghost use Rattle.hello_states.specs.Information.{shape_in, phase_informed, serial_informed};
+ghost use Rattle.hello_states.specs.Loans.{LendsAlive};
 
 use crate::asked::Informed;
 use crate::info_fields::InfoFields;
@@ -29,7 +29,7 @@ pub struct Joined {
 impl Model for Joined {
     ghost use Rattle.std.specs.Prelude.{◌<◌};
     ghost use Rattle.share_base.specs.Shapes.{IsScreenShape};
-    ghost use Rattle.hello_states.specs.Kept.{JoinedParts};
+    ghost use Rattle.hello_states.specs.TypedPhases.{JoinedParts};
 
     ghost Value = { JoinedParts };
 

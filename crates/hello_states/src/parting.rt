@@ -2,7 +2,7 @@
 
 ghost use Rattle.std.specs.Prelude.{◌≡◌, ◌≤◌};
 ghost use Rattle.share_base.specs.Moments.{last_moment};
-ghost use Rattle.hello_states.specs.Kept.{parting_phase};
+ghost use Rattle.hello_states.specs.TypedPhases.{parting_phase};
 ghost use Rattle.hello_states.specs.Handshake.{parting_for};
 
 use crate::part_cause::PartCause;
@@ -21,7 +21,7 @@ pub struct Parting {
 impl Model for Parting {
     ghost use Rattle.std.specs.Prelude.{◌≤◌};
     ghost use Rattle.share_base.specs.Moments.{last_moment};
-    ghost use Rattle.hello_states.specs.Kept.{PartingParts};
+    ghost use Rattle.hello_states.specs.TypedPhases.{PartingParts};
 
     ghost Value = { PartingParts };
 

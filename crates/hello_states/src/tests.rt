@@ -1,7 +1,7 @@
 use super::*;
 use message_codec::encode;
 use screen_config::Config;
-use share_base::{Octets, Reason, ScreenName, ScreenNo, ScreenSet, Shape};
+use share_base::{Octets, Reason, ScreenName, ScreenNo, ScreenSet, Shape, ShortLine};
 use std::alloc::Global;
 use std::test::*;
 
@@ -50,7 +50,7 @@ fn asked_pad(alloc: Global) -> Result<Asked, Fail> {
 struct Hello(u16, u16, &'static [u8], Option<PartCause>);
 
 // Rows stand in functions, whose results no proof looks into.
-fn hellos() -> [Hello; 12] {
+fn hellos() -> [Hello; 13] {
     [
         Hello(1, 6, b"pad", None),
         Hello(1, 6, b"PAD", None),
@@ -58,6 +58,7 @@ fn hellos() -> [Hello; 12] {
         Hello(1, 5, b"pad", Some(PartCause::Version)),
         Hello(1, 0, b"pad", Some(PartCause::Version)),
         Hello(0, 6, b"pad", Some(PartCause::Version)),
+        Hello(2, 0, b"pad", Some(PartCause::Version)),
         Hello(2, 6, b"pad", Some(PartCause::Version)),
         Hello(1, 7, b"nobody", Some(PartCause::Version)),
         Hello(1, 7, b"desk", Some(PartCause::Version)),
@@ -182,7 +183,7 @@ fn a_joined_screen_has_its_keep_alive(rt: HostRuntime) -> Result<(), Fail> {
     Ok(())
 }
 
-/// A cause, its word in the log, whether what is queued is dropped, and the body of its farewell.
+/// A cause, its text in the log, whether what is queued is dropped, and the body of its farewell.
 #[derive(Clone, Copy)]
 struct Cause(PartCause, &'static [u8], bool, &'static [u8]);
 
@@ -197,7 +198,7 @@ fn causes() -> [Cause; 12] {
         Cause(PartCause::Unknown, b"unknown", false, b"EUNK"),
         Cause(PartCause::Busy, b"busy", false, b"EBSY"),
         Cause(PartCause::Size, b"size", false, b"EBAD"),
-        Cause(bad, b"bad", false, b"EBAD"),
+        Cause(bad, b"bad 44 toolong", false, b"EBAD"),
         Cause(PartCause::Dead, b"dead", true, b""),
         Cause(PartCause::Silent, b"silent", true, b""),
         Cause(PartCause::Slow, b"slow", true, b""),
@@ -209,8 +210,10 @@ fn causes() -> [Cause; 12] {
 
 #[test]
 fn each_cause_has_its_row(rt: HostRuntime) -> Result<(), Fail> {
-    for Cause(cause, word, is_dropped, farewell) in causes() {
-        assert_eq!(rt; cause.word(), word);
+    for Cause(cause, text, is_dropped, farewell) in causes() {
+        let mut line = ShortLine::new();
+        cause.put_text(&mut line);
+        assert_eq!(rt; line.as_slice(), text);
         assert_eq!(rt; cause.drops_queue(), is_dropped);
         let mut body = Octets::new(rt.alloc());
         if let Some(message) = cause.farewell() {

@@ -9,7 +9,7 @@ use Rattle.hello_states.specs.declared.greeting.Answered.{Answered}
 use Rattle.hello_states.specs.declared.greeting.Answered.TheVariants as answered
 use Rattle.hello_states.specs.Phases.{Phase}
 use Rattle.hello_states.specs.Handshake.{HelloAnswer, Refused, Admitted, hello_answer}
-use Rattle.hello_states.specs.Kept.{asked_phase, parting_phase}
+use Rattle.hello_states.specs.TypedPhases.{asked_phase, parting_phase}
 
 -- where those screens are used
 abbrev pub answer_under : Configuration → ℕ → ℕ → ℕ → List ℕ → HelloAnswer

@@ -4,7 +4,7 @@ use Rattle.keepalive_clock.specs.declared.alive.Alive.{Alive}
 use Rattle.keepalive_clock.specs.contracts.alive.Alive.{the_row as alive_row}
 use Rattle.hello_states.specs.declared.joined.Joined.{Joined}
 use Rattle.hello_states.specs.contracts.joined.Joined.{the_row as joined_row}
-use Rattle.hello_states.specs.Kept.{JoinedParts}
+use Rattle.hello_states.specs.TypedPhases.{JoinedParts}
 
 -- the connection with another keep-alive
 abbrev pub with_alive : JoinedParts → Alive → JoinedParts

@@ -6,7 +6,7 @@ use Rattle.hello_states.specs.declared.asked.Informed.{Informed}
 use Rattle.hello_states.specs.declared.asked.Informed.TheVariants as informed
 use Rattle.hello_states.specs.Phases.{Phase}
 use Rattle.hello_states.specs.Handshake.{shape_of_info}
-use Rattle.hello_states.specs.Kept.{joined_phase, parting_phase}
+use Rattle.hello_states.specs.TypedPhases.{joined_phase, parting_phase}
 
 -- so many pixels from the first one, a number of two bytes, as facts
 pub record IsSpan (first : ℤ) (count : ℕ) : Type 0 where
