@@ -24,6 +24,6 @@ pub use deadlines::{CLOSING_TIME, HANDSHAKE_TIME};
 pub use greeting::{Answered, Greeting};
 pub use info_fields::InfoFields;
 pub use joined::Joined;
-pub use part_cause::PartCause;
+pub use part_cause::{CAUSE_LENGTH, PartCause};
 pub use parting::Parting;
 pub use version::{PROTOCOL_MAJOR, PROTOCOL_MINOR};
