@@ -2,5 +2,6 @@ pub mod Parts
 pub mod Sending
 pub mod Wholes
 pub mod OpenRuns
+pub mod Assemblies
 pub mod Clips
 pub mod Rules

@@ -7,7 +7,12 @@
 //! screen does with a clipboard.
 #![tactic(auto)]
 
+mod assembly;
 mod run;
+mod sending;
+mod size;
 mod took;
 
+pub use assembly::Assembly;
+pub use sending::frames_of;
 pub use took::{Cause, Took};
