@@ -5,3 +5,5 @@ pub mod Answered
 pub mod Cuts
 pub mod PartFrames
 pub mod ClipFrames
+pub mod Screens
+pub mod BookCalls

@@ -5,3 +5,5 @@ pub mod OpenRuns
 pub mod Assemblies
 pub mod Clips
 pub mod Rules
+pub mod Calls
+pub mod Books

@@ -8,11 +8,14 @@
 #![tactic(auto)]
 
 mod assembly;
+mod book;
+mod kept;
 mod run;
 mod sending;
 mod size;
 mod took;
 
 pub use assembly::Assembly;
+pub use book::ClipBook;
 pub use sending::frames_of;
 pub use took::{Cause, Took};
