@@ -44,7 +44,7 @@ turned clip seq digits chunks older ignored =
     ∙ append_assoc (reverse older) (start ∷ []) (map f (reverse chunks) ++ last)
 
 -- a part is among its own clipboard's
-own_first : (p : Part) (older : List Part) → of_clip p.clip (p ∷ older) ≡ p ∷ of_clip p.clip older
+pub own_first : (p : Part) (older : List Part) → of_clip p.clip (p ∷ older) ≡ p ∷ of_clip p.clip older
 own_first p older = ap (λ (b : Bool). cond b (p ∷ of_clip p.clip older) (of_clip p.clip older)) (clip_itself p.clip)
 
 -- ---- what is found is a whole

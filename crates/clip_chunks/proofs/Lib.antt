@@ -7,3 +7,6 @@ pub mod PartFrames
 pub mod ClipFrames
 pub mod Screens
 pub mod BookCalls
+pub mod Origins
+pub mod OneWhole
+pub mod Full

@@ -7,3 +7,4 @@ pub mod Clips
 pub mod Rules
 pub mod Calls
 pub mod Books
+pub mod Origins

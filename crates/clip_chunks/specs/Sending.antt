@@ -2,12 +2,14 @@
 use Rattle.std.specs.Prelude.{◌≡◌, ℕ, ◌+◌, ◌<◌, ◌≤◌, zero, suc, List, [], ◌∷◌, ◌++◌, length, take, drop, map, codes}
 use Rattle.std.specs.Int.{w32, to_be_bytes}
 use Rattle.std.specs.Fmt.{decimal}
+use Rattle.std.specs.List.{concat}
 use Rattle.share_base.specs.declared.clip_id.ClipId.{ClipId}
 use Rattle.share_base.specs.Clips.{clip_number}
 use Rattle.message_codec.specs.declared.clip_mark.ClipMark.{ClipMark}
 use Rattle.message_codec.specs.Marks.{mark_number}
 use Rattle.message_codec.specs.Streams.{frames_of}
 use Rattle.clip_chunks.specs.Parts.{Part, run, message_of}
+use Rattle.clip_chunks.specs.OpenRuns.{wholes_among}
 
 -- at most n chunks of that size
 abbrev pub cut_into : ℕ → ℕ → List ℕ → List (List ℕ)
@@ -44,3 +46,12 @@ part_frames parts = frames_of (map message_of parts)
 
 abbrev pub clip_frames : ClipId → ℕ → List ℕ → List ℕ
 clip_frames clip seq bytes = part_frames (parts_of clip seq bytes)
+
+-- their messages hold one whole, of these bytes, for whoever takes as many
+abbrev pub HoldsOne : ClipId → ℕ → List ℕ → Type 0
+HoldsOne clip seq bytes =
+    (limit : ℕ) → length bytes ≤ limit → wholes_among limit (map message_of (parts_of clip seq bytes)) ≡ record { clip = clip; seq = seq; bytes = bytes } ∷ []
+
+-- the bytes are cut once, into full chunks and a last one
+abbrev pub IsCut : List ℕ → Type 0
+IsCut bytes = (concat (chunks_of bytes) ≡ bytes) × AreFull (chunks_of bytes)

@@ -10,6 +10,7 @@
 mod assembly;
 mod book;
 mod kept;
+mod laws;
 mod run;
 mod sending;
 mod size;
@@ -17,5 +18,6 @@ mod took;
 
 pub use assembly::Assembly;
 pub use book::ClipBook;
+pub use laws::{chunks_are_full, known_were_brought, other_parts_pass, whole_where_found};
 pub use sending::frames_of;
 pub use took::{Cause, Took};

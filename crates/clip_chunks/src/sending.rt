@@ -3,7 +3,7 @@
 ghost use Rattle.std.specs.Prelude.{◌≡◌, ◌+◌, ◌≤◌, ◌++◌, length, take, OnOk, OnErr};
 ghost use Rattle.message_codec.specs.Streams.{frame_of};
 ghost use Rattle.clip_chunks.specs.Parts.{part, message_of};
-ghost use Rattle.clip_chunks.specs.Sending.{before_bytes, clip_frames};
+ghost use Rattle.clip_chunks.specs.Sending.{before_bytes, clip_frames, HoldsOne};
 
 use itoa::Buffer;
 use message_codec::ClipMark;
@@ -17,8 +17,9 @@ const CHUNK_LEN: usize = 32_768;
 const PART_LEN: u32 = 14;
 
 /// Appends the frames of a clipboard of at most 4,194,304 bytes: a start that says how many bytes there
-/// are, the bytes in chunks of 32,768 of which the last may be shorter, and an end. After `OutOfMemory`
-/// `out` is unchanged.
+/// are, the bytes in chunks of 32,768 of which the last may be shorter, and an end. Their messages hold
+/// one whole, of these bytes. After `OutOfMemory` `out` is unchanged.
+#[tactic(auto, using(crate::proofs::OneWhole::holds_one))]
 pub fn frames_of(
     clip: ClipId,
     seq: u32,
@@ -27,6 +28,7 @@ pub fn frames_of(
 ) -> Result<(), OutOfMemory>
     requires { length bytes.now ≤ 4194304 }
     ensures ok { OnOk result (out.new ≡ out.old ++ clip_frames clip seq bytes.now) }
+    ensures one_whole { HoldsOne clip seq bytes.now }
     ensures err { OnErr result (out.new ≡ out.old) }
 {
     let start = out.len();
