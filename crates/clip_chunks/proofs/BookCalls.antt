@@ -33,14 +33,14 @@ sent_follows old new clip was kept by given machine bytes screens was_is owner c
       primary = ap (λ (b : ClipBook). b.primary) new_is ∙ same_primary clip kept old;
       limit = ap (λ (b : ClipBook). b.limit) new_is ∙ same_limit clip kept old;
       stands = λ clips s.
-        let k : IsClip was (clip_of clip clips) = subst (λ (x : Kept). IsClip x (clip_of clip clips)) (sym was_is) (clip_kept clip old clips s) in
-        let counts : whole_counts by given machine (clip_of clip clips) ≡ true =
-            ap (λ (o : ℕ). (o == by) && nat_le (clip_of clip clips).seq given && nat_le given machine) (sym k.owner)
-            ∙ ap (λ (b : Bool). b && nat_le (clip_of clip clips).seq given && nat_le given machine) owner
-            ∙ ap (λ (n : ℕ). nat_le n given && nat_le given machine) (sym k.seq) ∙ current in
-        let ruled_is : (if whole_counts by given machine (clip_of clip clips) then with_clip clip after clips else clips) ≡ with_clip clip after clips =
-            ap (λ (b : Bool). if b then with_clip clip after clips else clips) counts in
-        subst (λ (c : Clips). StandsAt new c) (sym ruled_is) (subst (λ (b : ClipBook). StandsAt b (with_clip clip after clips)) (sym new_is) (put_stands clip kept after old clips is s));
+          let k : IsClip was (clip_of clip clips) = subst (λ (x : Kept). IsClip x (clip_of clip clips)) (sym was_is) (clip_kept clip old clips s) in
+          let counts : whole_counts by given machine (clip_of clip clips) ≡ true =
+          ap (λ (o : ℕ). (o == by) && nat_le (clip_of clip clips).seq given && nat_le given machine) (sym k.owner)
+          ∙ ap (λ (b : Bool). b && nat_le (clip_of clip clips).seq given && nat_le given machine) owner
+          ∙ ap (λ (n : ℕ). nat_le n given && nat_le given machine) (sym k.seq) ∙ current in
+          let ruled_is : (if whole_counts by given machine (clip_of clip clips) then with_clip clip after clips else clips) ≡ with_clip clip after clips =
+          ap (λ (b : Bool). if b then with_clip clip after clips else clips) counts in
+          subst (λ (c : Clips). StandsAt new c) (sym ruled_is) (subst (λ (b : ClipBook). StandsAt b (with_clip clip after clips)) (sym new_is) (put_stands clip kept after old clips is s));
     }
 
 pub clipboard_entered : (old new : ClipBook) (clip : ClipId) (screen : ℕ) → clip ≡ Clipboard → new.primary ≡ old.primary → new.limit ≡ old.limit → new.selection ≡ old.selection → Changes old.clipboard new.clipboard (entered screen) → Follows old new (Entered clip screen)

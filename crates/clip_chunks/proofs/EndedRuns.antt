@@ -107,13 +107,13 @@ whole_found limit bytes newest older e =
     let end : Part = part mark.End newest.clip newest.seq w.ignored in
     let parts : List Part = begun newest.clip newest.seq w.digits (reverse w.chunks) (reverse e.before) in
     let there : reverse (end ∷ parts) ≡ e.before ++ run newest.clip newest.seq w.digits w.chunks w.ignored =
-        turned newest.clip newest.seq w.digits (reverse w.chunks) (reverse e.before) w.ignored
-        ∙ ap (λ (ps : List Part). ps ++ run newest.clip newest.seq w.digits (reverse (reverse w.chunks)) w.ignored) (reverse-reverse e.before)
-        ∙ ap (λ (cs : List (List ℕ)). e.before ++ run newest.clip newest.seq w.digits cs w.ignored) (reverse-reverse w.chunks) in
+    turned newest.clip newest.seq w.digits (reverse w.chunks) (reverse e.before) w.ignored
+    ∙ ap (λ (ps : List Part). ps ++ run newest.clip newest.seq w.digits (reverse (reverse w.chunks)) w.ignored) (reverse-reverse e.before)
+    ∙ ap (λ (cs : List (List ℕ)). e.before ++ run newest.clip newest.seq w.digits cs w.ignored) (reverse-reverse w.chunks) in
     let here : reverse (newest ∷ of_clip newest.clip older) ≡ e.before ++ run newest.clip newest.seq w.digits w.chunks w.ignored =
-        ap reverse (sym (own_first newest older)) ∙ e.last ∙ ap (λ (ps : List Part). e.before ++ ps) w.parts_are in
+    ap reverse (sym (own_first newest older)) ∙ e.last ∙ ap (λ (ps : List Part). e.before ++ ps) w.parts_are in
     let same : newest ∷ of_clip newest.clip older ≡ end ∷ parts =
-        sym (reverse-reverse (newest ∷ of_clip newest.clip older)) ∙ ap reverse (here ∙ sym there) ∙ reverse-reverse (end ∷ parts) in
+    sym (reverse-reverse (newest ∷ of_clip newest.clip older)) ∙ ap reverse (here ∙ sym there) ∙ reverse-reverse (end ∷ parts) in
     let first : newest ≡ end = cc in
     let rest : of_clip newest.clip older ≡ parts = cc in
     let is_end : newest.mark ≡ mark.End = ap (λ (p : Part). p.mark) first in

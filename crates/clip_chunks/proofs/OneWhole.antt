@@ -47,7 +47,7 @@ holds_one clip seq bytes small limit within =
     let end : Part = part mark.End clip seq [] in
     let older : List Part = begun clip seq text (reverse chunks) [] in
     let back : reverse (end ∷ older) ≡ run clip seq text chunks [] =
-        turned clip seq text (reverse chunks) [] [] ∙ ap (λ (cs : List (List ℕ)). run clip seq text cs []) (reverse-reverse chunks) in
+    turned clip seq text (reverse chunks) [] [] ∙ ap (λ (cs : List (List ℕ)). run clip seq text cs []) (reverse-reverse chunks) in
     let last_first : reverse (run clip seq text chunks []) ≡ end ∷ older = ap reverse (sym back) ∙ reverse-reverse (end ∷ older) in
     let all : bytes ≡ concat chunks = sym (cut-concat full_chunk (omega arith) (length bytes) bytes (omega arith)) in
     let whole : EndsWhole limit bytes end older = record {

@@ -17,12 +17,12 @@ record Same (was now : Clip) : Type 0 where
 
 later : (primary limit : ℕ) (clip : ClipId) (seq : ℕ) (bytes : List ℕ) (calls : List Call) (call : Call) → WereBrought primary limit clip seq bytes calls → WereBrought primary limit clip seq bytes (call ∷ calls)
 later primary limit clip seq bytes calls call w = record {
-    newer = call ∷ w.newer;
-    call = w.call;
-    older = w.older;
-    calls_are = ap (λ (cs : List Call). call ∷ cs) w.calls_are;
-    brings = w.brings;
-  }
+  newer = call ∷ w.newer;
+  call = w.call;
+  older = w.older;
+  calls_are = ap (λ (cs : List Call). call ∷ cs) w.calls_are;
+  brings = w.brings;
+}
 
 -- what a call leaves of a clipboard is known from before, or was brought by it
 Goes : ℕ → ℕ → ClipId → List Call → Call → Clip → Type 0
@@ -87,8 +87,8 @@ goes primary limit clip calls before (Sent id by given machine bytes screens) =
     let was : ClipId → Clip = λ i. clip_of i (clips_after primary limit calls) in
     put_if primary limit clip id calls call (known by given bytes screens) (whole_counts by given machine (was id)) before
     (λ counts is.
-      let owner : (was id).owner ≡ by = eqb-true (was id).owner by (both ((was id).owner == by) (nat_le (was id).seq given) (both ((was id).owner == by && nat_le (was id).seq given) (nat_le given machine) counts).0).0 in
-      new primary limit clip calls call by given bytes screens (is, refl, refl, ap (λ (i : ClipId). (was i).owner) (sym is) ∙ owner))
+    let owner : (was id).owner ≡ by = eqb-true (was id).owner by (both ((was id).owner == by) (nat_le (was id).seq given) (both ((was id).owner == by && nat_le (was id).seq given) (nat_le given machine) counts).0).0 in
+    new primary limit clip calls call by given bytes screens (is, refl, refl, ap (λ (i : ClipId). (was i).owner) (sym is) ∙ owner))
 goes primary limit Clipboard calls before (Joined screen) =
     let c : Clip = (clips_after primary limit calls).clipboard in
     kept primary limit Clipboard calls (Joined screen) (joined screen c) before (joined_same screen c c.bytes)

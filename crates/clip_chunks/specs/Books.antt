@@ -43,7 +43,6 @@ pub record Follows (old new : ClipBook) (call : Call) : Type 0 where
 abbrev pub FollowsWith : ℕ → ClipBook → ClipBook → (List ℕ → Call) → Type 0
 FollowsWith set old new call = (screens : List ℕ) → AreIn set screens → Follows old new (call screens)
 
-
 -- ---- answers
 
 -- a grab counted where it counts for whatever clipboards the book stood at

@@ -95,7 +95,11 @@ impl Assembly {
         let Some(mut run) = self.run.take() else {
             return Ok(Took::Dropped(Cause::NoStart));
         };
-        let Run { seq: kept, size, .. } = run;
+        let Run {
+            seq: kept,
+            size,
+            ..
+        } = run;
         if kept != seq {
             return Ok(Took::Dropped(Cause::SeqChanged { kept, given: seq }));
         }

@@ -14,6 +14,8 @@ mod laws;
 mod run;
 mod sending;
 mod size;
+#[cfg(test)]
+mod tests;
 mod took;
 
 pub use assembly::Assembly;

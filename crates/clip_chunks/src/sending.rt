@@ -20,12 +20,7 @@ const PART_LEN: u32 = 14;
 /// are, the bytes in chunks of 32,768 of which the last may be shorter, and an end. Their messages hold
 /// one whole, of these bytes. After `OutOfMemory` `out` is unchanged.
 #[tactic(auto, using(crate::proofs::OneWhole::holds_one))]
-pub fn frames_of(
-    clip: ClipId,
-    seq: u32,
-    bytes: &[u8],
-    out: &mut Octets,
-) -> Result<(), OutOfMemory>
+pub fn frames_of(clip: ClipId, seq: u32, bytes: &[u8], out: &mut Octets) -> Result<(), OutOfMemory>
     requires { length bytes.now ≤ 4194304 }
     ensures ok { OnOk result (out.new ≡ out.old ++ clip_frames clip seq bytes.now) }
     ensures one_whole { HoldsOne clip seq bytes.now }
