@@ -11,15 +11,8 @@ use Rattle.clip_chunks.specs.declared.took.Cause.TheVariants.{BadSize, TooLarge,
 use Rattle.clip_chunks.specs.Parts.{Part, part, of_clip}
 use Rattle.clip_chunks.specs.Wholes.{size_of, EndsWhole}
 use Rattle.clip_chunks.specs.OpenRuns.{open_run, closes, whole_by, whole_at}
-use Rattle.clip_chunks.specs.Assemblies.{AssemblyParts, start_answer, chunk_answer, end_answer, answer, StandsFor, GivesWhole, Answers}
+use Rattle.clip_chunks.specs.Assemblies.{AssemblyParts, start_answer, chunk_answer, end_answer, answer, StandsFor, whole_in, Finds, GivesWhole, Answers}
 use Rattle.clip_chunks.proofs.EndedRuns.{ends_whole, whole_found}
-
--- the bytes that an answer gives
-abbrev whole_in : Took → Option (List ℕ)
-whole_in (Whole bytes) = Some bytes
-whole_in Started = None
-whole_in Going = None
-whole_in (Dropped cause) = None
 
 none_if : (b : Bool) (t u : Took) → whole_in t ≡ None → whole_in u ≡ None → whole_in (if b then t else u) ≡ None
 none_if true t u h k = h
@@ -59,11 +52,15 @@ gives Started limit newest older h = ends_none limit newest older h
 gives Going limit newest older h = ends_none limit newest older h
 gives (Dropped cause) limit newest older h = ends_none limit newest older h
 
+pub finds_rightly : (old : AssemblyParts) (m : ClipMark) (seq : ℕ) (bytes : List ℕ) (took : Took) → took ≡ answer old.limit m seq bytes old.run → Finds old m seq bytes took
+finds_rightly old m seq bytes took is limit clip parts stands =
+    ap whole_in is ∙ answered old.limit m seq bytes old.run ∙ ap (whole_by m seq) stands.run_is
+
 pub answers_rightly : (old : AssemblyParts) (m : ClipMark) (seq : ℕ) (bytes : List ℕ) (took : Took) → took ≡ answer old.limit m seq bytes old.run → Answers old m seq bytes took
 answers_rightly old m seq bytes took is limit clip parts stands =
-    gives took limit (part m clip seq bytes) parts
-    (ap whole_in is ∙ answered old.limit m seq bytes old.run ∙ ap (whole_by m seq) stands.run_is)
+    gives took limit (part m clip seq bytes) parts (finds_rightly old m seq bytes took is limit clip parts stands)
 
-pub answers_where_ok : {E : Type 0} (old : AssemblyParts) (m : ClipMark) (seq : ℕ) (bytes : List ℕ) (r : Result Took E) → IfOk r (λ took. took ≡ answer old.limit m seq bytes old.run) → IfOk r (λ took. Answers old m seq bytes took)
-answers_where_ok old m seq bytes (Ok took) is = answers_rightly old m seq bytes took is
-answers_where_ok old m seq bytes (Err e) is = is
+-- what holds of the right answer holds where there is one
+pub where_ok : {E : Type 0} (P : Took → Type 0) (right : Took) (r : Result Took E) → ((took : Took) → took ≡ right → P took) → IfOk r (λ took. took ≡ right) → IfOk r P
+where_ok P right (Ok took) from is = from took is
+where_ok P right (Err e) from is = is

@@ -10,3 +10,4 @@ pub mod BookCalls
 pub mod Origins
 pub mod OneWhole
 pub mod Full
+pub mod WholesGrow

@@ -9,7 +9,7 @@ use Rattle.clip_chunks.specs.declared.took.Took.TheVariants.{Started, Going, Who
 use Rattle.clip_chunks.specs.declared.took.Cause.TheVariants.{BadSize, TooLarge, NoStart, SeqChanged, Over, Mismatch}
 use Rattle.clip_chunks.specs.Parts.{Part, part, of_clip}
 use Rattle.clip_chunks.specs.Wholes.{size_of, EndsWhole}
-use Rattle.clip_chunks.specs.OpenRuns.{open_run, run_after}
+use Rattle.clip_chunks.specs.OpenRuns.{open_run, run_after, whole_at}
 
 -- the limit, and the run that is open
 pub record AssemblyParts : Type 0 where
@@ -56,6 +56,17 @@ pub record StandsFor (limit : ℕ) (clip : ClipId) (a : AssemblyParts) (parts : 
 -- whatever parts it stood for, it stands for them and one more
 abbrev pub Takes : AssemblyParts → AssemblyParts → ClipMark → ℕ → List ℕ → Type 0
 Takes old new mark seq bytes = (limit : ℕ) (clip : ClipId) (parts : List Part) → StandsFor limit clip old parts → StandsFor limit clip new (part mark clip seq bytes ∷ parts)
+
+-- the bytes that an answer gives
+abbrev pub whole_in : Took → Option (List ℕ)
+whole_in (Whole bytes) = Some bytes
+whole_in Started = None
+whole_in Going = None
+whole_in (Dropped cause) = None
+
+-- whatever parts the assembly stood for, it gives what is found to be the whole that one more ends
+abbrev pub Finds : AssemblyParts → ClipMark → ℕ → List ℕ → Took → Type 0
+Finds old mark seq bytes took = (limit : ℕ) (clip : ClipId) (parts : List Part) → StandsFor limit clip old parts → whole_in took ≡ whole_at limit (part mark clip seq bytes) parts
 
 -- the answer is the whole that the newest part ends; another one comes where it ends none
 abbrev pub GivesWhole : Took → ℕ → Part → List Part → Type 0

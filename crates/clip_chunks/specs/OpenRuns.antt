@@ -60,6 +60,11 @@ abbrev pub wholes : ℕ → List Part → List Whole
 wholes limit [] = []
 wholes limit (p ∷ older) = wholes limit older ++ whole_of p (whole_at limit p older)
 
+-- the whole that one more part brings, if it is a part
+abbrev pub brought : ℕ → Option Part → List Part → List Whole
+brought limit None older = []
+brought limit (Some p) older = whole_of p (whole_at limit p older)
+
 -- those among messages, which stand the oldest first
 abbrev pub wholes_among : ℕ → List Msg → List Whole
 wholes_among limit messages = wholes limit (reverse (parts_among messages))

@@ -4,7 +4,7 @@ ghost use Rattle.std.specs.Prelude.{◌≡◌, ◌≤◌, ◌<◌, ◌^◌, ◌�
 ghost use Rattle.share_base.specs.declared.clip_id.ClipId.{ClipId as Clip};
 ghost use Rattle.clip_chunks.specs.Wholes.{size_of};
 ghost use Rattle.clip_chunks.specs.OpenRuns.{opens, goes_on, run_after};
-ghost use Rattle.clip_chunks.specs.Assemblies.{AssemblyParts, HoldsLittle, start_answer, chunk_answer, end_answer, answer, StandsFor, Takes, Answers};
+ghost use Rattle.clip_chunks.specs.Assemblies.{AssemblyParts, HoldsLittle, start_answer, chunk_answer, end_answer, answer, StandsFor, Takes, Finds, Answers};
 
 use crate::run::Run;
 use crate::size::size_of as read_size;
@@ -54,6 +54,7 @@ impl Assembly {
     pub fn take(&mut self, seq: u32, mark: ClipMark, bytes: &[u8]) -> Result<Took, OutOfMemory>
         ensures answer { IfOk result (λ took. took ≡ answer self.old.limit mark seq bytes.now self.old.run) }
         ensures kept { OnOk result (self.new ≡ record self.old { run = run_after self.old.limit mark seq bytes.now self.old.run }) }
+        ensures found { IfOk result (λ took. Finds self.old mark seq bytes.now took) }
         ensures wholes { IfOk result (λ took. Answers self.old mark seq bytes.now took) }
         ensures stands { OnOk result (Takes self.old self.new mark seq bytes.now) }
         ensures err { OnErr result (self.new ≡ self.old) }

@@ -1,10 +1,11 @@
 //! Laws on which other crates rest. The calls do nothing: their contracts are the laws.
 
-ghost use Rattle.std.specs.Prelude.{◌≡◌, ◌∷◌, List, ℕ, Some, false};
+ghost use Rattle.std.specs.Prelude.{◌≡◌, ◌∷◌, ◌++◌, [], List, ℕ, Some, false, reverse};
 ghost use Rattle.share_base.specs.declared.clip_id.ClipId.{ClipId};
-ghost use Rattle.clip_chunks.specs.Parts.{Part, same_clip};
+ghost use Rattle.message_codec.specs.declared.messages.Msg.{Msg};
+ghost use Rattle.clip_chunks.specs.Parts.{Part, part_of, parts_among, same_clip};
 ghost use Rattle.clip_chunks.specs.Wholes.{EndsWhole};
-ghost use Rattle.clip_chunks.specs.OpenRuns.{whole_at};
+ghost use Rattle.clip_chunks.specs.OpenRuns.{whole_at, wholes_among, brought};
 ghost use Rattle.clip_chunks.specs.Assemblies.{AssemblyParts, StandsFor};
 ghost use Rattle.clip_chunks.specs.Sending.{IsCut};
 ghost use Rattle.clip_chunks.specs.Calls.{Call};
@@ -16,6 +17,12 @@ ghost use Rattle.clip_chunks.specs.Origins.{KnownWereBrought};
 pub fn whole_where_found()
     ensures found { (limit : ℕ) (bytes : List ℕ) (newest : Part) (older : List Part) → whole_at limit newest older ≡ Some bytes → EndsWhole limit bytes newest older }
     ensures all { (limit : ℕ) (bytes : List ℕ) (newest : Part) (older : List Part) → EndsWhole limit bytes newest older → whole_at limit newest older ≡ Some bytes }
+{}
+
+/// One more message brings the whole that its part ends, after those that were there.
+#[tactic(auto, using(crate::proofs::WholesGrow::wholes_grow))]
+pub fn wholes_grow()
+    ensures { (limit : ℕ) (messages : List Msg) (m : Msg) → wholes_among limit (messages ++ m ∷ []) ≡ wholes_among limit messages ++ brought limit (part_of m) (reverse (parts_among messages)) }
 {}
 
 /// A part of the other clipboard changes nothing that an assembly stands for.

@@ -20,6 +20,8 @@ mod took;
 
 pub use assembly::Assembly;
 pub use book::ClipBook;
-pub use laws::{chunks_are_full, known_were_brought, other_parts_pass, whole_where_found};
+pub use laws::{
+    chunks_are_full, known_were_brought, other_parts_pass, whole_where_found, wholes_grow,
+};
 pub use sending::frames_of;
 pub use took::{Cause, Took};
