@@ -4,8 +4,8 @@ pub mod Clearing
 pub mod Histories
 pub mod Tables
 pub mod Standing
-pub mod Ranging
-pub mod Releasing
+pub mod LineRanges
+pub mod ReleaseTexts
 pub mod WordsApart
 pub mod LineTexts
 pub mod Rows
