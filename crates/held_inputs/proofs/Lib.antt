@@ -10,3 +10,4 @@ pub mod WordsApart
 pub mod LineTexts
 pub mod Rows
 pub mod Plain
+pub mod MessageLines
