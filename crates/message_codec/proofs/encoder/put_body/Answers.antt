@@ -2,10 +2,10 @@ use Rattle.std.proofs.Common.{◌++◌, length, arith}
 use Rattle.std.proofs.lemmas.List.{length-append}
 use Rattle.std.proofs.lemmas.Result.{err_from_is_err_and}
 use Rattle.message_codec.specs.Fields.{spelled, spelled_all, Fits}
-use Rattle.message_codec.specs.Seen.{seen}
+use Rattle.message_codec.specs.FieldViews.{seen}
 use Rattle.message_codec.specs.Table.{text, code_of, fields}
 use Rattle.message_codec.proofs.Putting.{put_more, all_more, one_within, front_of_loop}
-use Rattle.message_codec.proofs.encoding.put_body.Goals as goal
+use Rattle.message_codec.proofs.encoder.put_body.Goals as goal
 
 pub put_field-requires : goal.put_field-requires
 put_field-requires c =

@@ -10,7 +10,7 @@ use Rattle.message_codec.proofs.Bodies.{reads_at, read_spells}
 use Rattle.message_codec.specs.declared.faults.BadBody.TheVariants as bad
 use Rattle.message_codec.proofs.FaultForms.{left_within, rest_within, from_faults}
 use Rattle.message_codec.proofs.RefusalLaws.{never, misfit_faults}
-use Rattle.message_codec.proofs.decoding.decode.Goals as goal
+use Rattle.message_codec.proofs.decoder.decode.Goals as goal
 
 pub returns-in_default-clause-bad : goal.returns-in_default-clause-bad
 returns-in_default-clause-bad c code rest begins = no_code c.args.from c.args.body.now code rest (search rules) begins

@@ -2,7 +2,7 @@ use Rattle.std.proofs.Common.{◌≡◌, ◌++◌, take}
 use Rattle.std.specs.List.{AllByRecursion}
 use Rattle.message_codec.specs.Fields.{spelled_all, Fits}
 use Rattle.message_codec.specs.Table.{text, code_of, fields}
-use Rattle.message_codec.proofs.encoding.put_body.Given as goal
+use Rattle.message_codec.proofs.encoder.put_body.Given as goal
 
 abbrev pub invariant-loop-i : goal.invariant-loop-i
 invariant-loop-i l = record {

@@ -5,7 +5,7 @@ ghost use Rattle.std.specs.List.{flat_map};
 ghost use Rattle.std.specs.Fmt.{decimal, signed_decimal};
 ghost use Rattle.message_codec.specs.Table.{fields};
 ghost use Rattle.message_codec.specs.Showing.{after_blank, shown, show_line};
-ghost use Rattle.message_codec.specs.Seen.{seen};
+ghost use Rattle.message_codec.specs.FieldViews.{seen};
 ghost use Rattle.share_base.specs.Fronts.{IsFront};
 ghost use Rattle.share_base.specs.Hex.{hex};
 

@@ -22,7 +22,7 @@ use Rattle.held_inputs.specs.Balanced.{NothingDown}
 use Rattle.held_inputs.specs.Stands.{AllUp, Stands, StandsFor, Tells, Prints}
 use Rattle.held_inputs.proofs.Looking.{button_past}
 use Rattle.held_inputs.proofs.Clearing.{cleared}
-use Rattle.held_inputs.proofs.Ranging.{fit-append, fit-one, fit-places}
+use Rattle.held_inputs.proofs.LineRanges.{fit-append, fit-one, fit-places}
 use Rattle.held_inputs.proofs.Tables.{found-held_keys}
 use Rattle.held_inputs.proofs.Standing.{stands-plain}
 

@@ -7,7 +7,7 @@ ghost use Rattle.message_codec.specs.declared.messages.End.{End};
 ghost use Rattle.message_codec.specs.Fields.{spelled, Fits};
 ghost use Rattle.message_codec.specs.Table.{fields, code_of, SentBy};
 ghost use Rattle.message_codec.specs.Spelling.{body_of, Spells};
-ghost use Rattle.message_codec.specs.Seen.{seen};
+ghost use Rattle.message_codec.specs.FieldViews.{seen};
 ghost use Rattle.share_base.specs.Fronts.{IsFront};
 
 use crate::fields::{FieldRef, code, count, field};

@@ -1,9 +1,9 @@
 use Rattle.std.proofs.Common.{◌≤◌, length, sym, subst, arith}
 use Rattle.message_codec.specs.declared.fields.FieldRef.{FieldRef}
 use Rattle.message_codec.specs.Fields.{spelled, Fits}
-use Rattle.message_codec.specs.Seen.{seen}
+use Rattle.message_codec.specs.FieldViews.{seen}
 use Rattle.message_codec.proofs.Putting.{words_are_few, words_fit, always}
-use Rattle.message_codec.proofs.encoding.put_field.Goals as goal
+use Rattle.message_codec.proofs.encoder.put_field.Goals as goal
 
 pub overflow_cast-words : goal.overflow_cast-words
 overflow_cast-words c =

@@ -1,11 +1,11 @@
 use Rattle.std.proofs.Common.{◌++◌}
 use Rattle.std.proofs.lemmas.Result.{err_from_is_err_and}
 use Rattle.message_codec.specs.Fields.{Field}
-use Rattle.message_codec.specs.Seen.{seen}
+use Rattle.message_codec.specs.FieldViews.{seen}
 use Rattle.message_codec.specs.Showing.{after_blank, shown}
 use Rattle.message_codec.specs.Table.{text, code_of, fields}
 use Rattle.message_codec.proofs.Putting.{put_more, front_of_loop}
-use Rattle.message_codec.proofs.showing.put_line.Goals as goal
+use Rattle.message_codec.proofs.show_line.put_line.Goals as goal
 
 pub loop-i-preserved : goal.loop-i-preserved
 loop-i-preserved c =
