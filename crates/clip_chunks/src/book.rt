@@ -54,9 +54,10 @@ impl ClipBook {
         machine: u32,
         joined: &ScreenSet,
     ) -> Result<bool, OutOfMemory>
-        ensures counts { IfOk result (λ counts. counts ≡ copy_counts self.old.limit bytes.now) }
-        ensures follows { OnOk result (FollowsWith joined.now self.old self.new (Copied clip bytes.now machine)) }
-        ensures unchanged { IfOk result (λ counts. counts ≡ false → self.new ≡ self.old) }
+        ensures counts { IfOk result (λ is. is ≡ copy_counts self.old.limit bytes.now) }
+        ensures follows { OnOk result (FollowsWith joined.now self.old self.new
+            (Copied clip bytes.now machine)) }
+        ensures unchanged { IfOk result (λ is. is ≡ false → self.new ≡ self.old) }
         ensures err { OnErr result (self.new ≡ self.old) }
     {
         if bytes.len() > self.limit as usize {
@@ -98,9 +99,10 @@ impl ClipBook {
     ) -> Result<bool, OutOfMemory>
         requires screen { by.0 < 64 }
         requires short { length bytes.now ≤ 4194304 }
-        ensures counts { IfOk result (λ counts. WholeAnswer self.old clip by.0 given machine counts) }
-        ensures follows { OnOk result (FollowsWith joined.now self.old self.new (Sent clip by.0 given machine bytes.now)) }
-        ensures unchanged { IfOk result (λ counts. counts ≡ false → self.new ≡ self.old) }
+        ensures counts { IfOk result (λ is. WholeAnswer self.old clip by.0 given machine is) }
+        ensures follows { OnOk result (FollowsWith joined.now self.old self.new
+            (Sent clip by.0 given machine bytes.now)) }
+        ensures unchanged { IfOk result (λ is. is ≡ false → self.new ≡ self.old) }
         ensures err { OnErr result (self.new ≡ self.old) }
     {
         let kept = self.kept(clip);

@@ -5,7 +5,7 @@ ghost use Rattle.std.specs.Option.{option_map};
 ghost use Rattle.std.specs.Borrow.{Bor};
 ghost use Rattle.share_base.specs.Screens.{has};
 ghost use Rattle.clip_chunks.specs.Clips.{Clip, is_dirty};
-ghost use Rattle.clip_chunks.specs.Rules.{known, unknown, joined, left, entered};
+ghost use Rattle.clip_chunks.specs.Rules.{unknown, joined, left, entered};
 
 use share_base::{Octets, ScreenNo, ScreenSet};
 
@@ -21,7 +21,7 @@ pub(crate) struct Kept {
 }
 
 impl Kept {
-    ghost use Rattle.clip_chunks.specs.Books.{AreIn, IsClip, Changes};
+    ghost use Rattle.clip_chunks.specs.Books.{IsClip, IsKnown, Changes};
 
     /// A clipboard of which the bytes are unknown.
     pub(crate) fn unknown(owner: ScreenNo, seq: u32) -> Kept
@@ -38,7 +38,7 @@ impl Kept {
     /// A clipboard of which the bytes are known, to all screens but the owner's still unsent.
     pub(crate) fn known(owner: ScreenNo, seq: u32, bytes: Octets, joined: &ScreenSet) -> Kept
         requires { owner.0 < 64 }
-        ensures { (screens : List ℕ) → AreIn joined.now screens → IsClip result (known owner.0 seq bytes screens) }
+        ensures { IsKnown result owner.0 seq bytes joined.now }
     {
         let mut dirty = *joined;
         dirty.remove(owner);
