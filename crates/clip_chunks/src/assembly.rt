@@ -13,8 +13,8 @@ use share_base::{Octets, OutOfMemory};
 use std::alloc::Global;
 use std::marker::Model;
 
-/// Puts the parts of one clipboard together that come on one connection. It holds at most as many bytes
-/// as the latest start said, and takes memory for them only as they come. Contracts see it as
+/// Puts the parts of one clipboard together, as they come on one connection. It holds at most as many
+/// bytes as the latest start said, and allocates for them only as they come. Contracts see it as
 /// `AssemblyParts`, and as the result of the parts that it was given.
 #[derive(Drop)]
 pub struct Assembly {
@@ -35,7 +35,7 @@ impl Model for Assembly {
 }
 
 impl Assembly {
-    /// An assembly that was given no part, of clipboards of at most `limit` bytes. It takes no memory.
+    /// Makes an assembly for clipboards of at most `limit` bytes. It doesn't allocate.
     pub fn new(alloc: Global, limit: u32) -> Assembly
         ensures empty { result ≡ record { limit = limit; run = None } }
         ensures stands { (clip : Clip) → StandsFor limit clip result [] }
@@ -47,9 +47,9 @@ impl Assembly {
         }
     }
 
-    /// Takes the next part of the clipboard. A start replaces a clipboard that was on its way, and after
-    /// a `Dropped` none is. The bytes of an end are ignored. After `OutOfMemory` the part counts as not
-    /// given.
+    /// Takes the next part of the clipboard. A start replaces what was on its way, and after a `Dropped`
+    /// nothing is. The bytes of an end are ignored. On `OutOfMemory` nothing changes, as if the part had
+    /// not been given.
     pub fn take(&mut self, seq: u32, mark: ClipMark, bytes: &[u8]) -> Result<Took, OutOfMemory>
         ensures answer { IfOk result (λ took. IsAnswer self.old mark seq bytes.now took) }
         ensures kept { OnOk result (Keeps self.old self.new mark seq bytes.now) }

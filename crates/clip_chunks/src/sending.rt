@@ -16,7 +16,7 @@ const PART_LEN: u32 = 14;
 
 /// Appends the frames of a clipboard of at most 4,194,304 bytes: a start that says how many bytes there
 /// are, the bytes in chunks of 32,768 of which the last may be shorter, and an end. Their messages hold
-/// one whole, of these bytes. After `OutOfMemory` `out` is unchanged.
+/// one whole, of these bytes. On `OutOfMemory` `out` is unchanged.
 #[tactic(auto, using(crate::proofs::OneWhole::holds_one))]
 pub fn frames_of(clip: ClipId, seq: u32, bytes: &[u8], out: &mut Octets) -> Result<(), OutOfMemory>
     requires { length bytes.now ≤ 4194304 }
