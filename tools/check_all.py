@@ -6,8 +6,9 @@ import sys
 import check_paths
 import check_program
 import check_promises
+import check_refused
 
-CHECKS = (check_promises, check_paths, check_program)
+CHECKS = (check_promises, check_paths, check_refused, check_program)
 
 
 def main():

@@ -11,3 +11,5 @@ pub mod Stored
 pub mod Screens
 pub mod Shapes
 pub mod Sides
+pub mod Fronts
+pub mod Hex
