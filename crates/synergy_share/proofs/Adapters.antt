@@ -1,5 +1,5 @@
 -- The end of a reader whose bytes are known.
-use Rattle.std.proofs.Common.{◌≡◌, ℕ, List, [], Option, None, Some, sym, ◌∙◌}
+use Rattle.std.proofs.Common.{ℕ, List, [], Option, None, Some, sym, ◌∙◌}
 use Rattle.std.specs.Io.KnownBytes.{Keeps, Consumes, IsAtEnd}
 
 -- a read that gave nothing at the end kept what there was, which is nothing

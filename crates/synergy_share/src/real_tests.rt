@@ -110,16 +110,19 @@ fn a_stream_that_fails_is_a_fault(rt: HostRuntime) -> Result<(), Fail> {
     Ok(())
 }
 
-/// The size and the limit of a file, and whether it may be read.
+/// Returns the name of a file that no other process uses.
+fn temporary_name(rt: &HostRuntime, purpose: &str) -> io::Result<String> {
+    let folder = env::temp_dir(rt)?;
+    let process = process::id(rt.process());
+    let name = format!(in rt.alloc(); "{}/synergy-share-{process}-{purpose}", folder.as_str())?;
+    Ok(name)
+}
+
 #[test]
 fn files_are_read_byte_for_byte(rt: HostRuntime) -> Result<(), Fail> {
     let mut files = StdFiles::new(&rt, rt.alloc());
-    let folder = env::temp_dir(&rt)?;
-    let name = format!(in rt.alloc();
-        "{}/synergy-share-{}",
-        folder.as_str(),
-        process::id(rt.process())
-    )?;
+    let name = temporary_name(&rt, "bytes")?;
+    // The size of the file, the limit, and whether the file may be read.
     for (size, limit, fits) in [
         (0u32, 0, true),
         (5000, 1_048_576, true),
@@ -145,12 +148,7 @@ fn files_are_read_byte_for_byte(rt: HostRuntime) -> Result<(), Fail> {
 
 #[test]
 fn a_configuration_is_read_from_a_file(rt: HostRuntime) -> Result<(), Fail> {
-    let folder = env::temp_dir(&rt)?;
-    let name = format!(in rt.alloc();
-        "{}/synergy-share-{}.conf",
-        folder.as_str(),
-        process::id(rt.process())
-    )?;
+    let name = temporary_name(&rt, "configuration")?;
     fs::write(
         &rt,
         name.as_str(),
