@@ -10,9 +10,9 @@ use std::alloc::Global;
 /// Why fields could not be read.
 #[derive(Clone, Copy, Debug, PartialEq, Eq)]
 pub enum ReadError {
-    /// A part of a field didn't fit into the bytes that were left there.
+    /// A part of a field is longer than what is left, which is `left` bytes.
     Short { left: usize },
-    /// Memory could not be had.
+    /// Out of memory.
     Memory,
 }
 
@@ -84,8 +84,8 @@ pub fn octets_at(alloc: Global, bytes: &[u8]) -> Result<(Octets, &[u8]), ReadErr
     Ok((octets, rest))
 }
 
-/// So many numbers of four bytes, and the bytes after them. Memory is taken for each as it comes, so
-/// a count without its numbers takes none.
+/// `count` numbers of four bytes, and the bytes after them. Memory is taken for each number as it is
+/// read, so a count without its numbers takes none.
 pub fn words_of(alloc: Global, count: u32, bytes: &[u8]) -> Result<(Words32, &[u8]), ReadError>
     ensures { Gives true (λ x. (x.0, x.1.now)) result (words_at count bytes.now) }
 {

@@ -11,3 +11,4 @@ pub mod Screens
 pub mod Shapes
 pub mod Sides
 pub mod Fronts
+pub mod Hex
