@@ -8,6 +8,7 @@ pub mod FaultOrder
 pub mod FirstFaults
 pub mod FirstHotkeyFaults
 pub mod FlatMapLengths
+pub mod HeaderLines
 pub mod HotkeyFaultOrder
 pub mod HotkeyLengths
 pub mod HotkeyMeanings
@@ -44,3 +45,4 @@ pub mod StopsSections
 pub mod StopsTargets
 pub mod TextAgain
 pub mod ValuesAgain
+pub mod Verdicts

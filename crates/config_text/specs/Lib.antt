@@ -16,3 +16,4 @@ pub mod Seen
 pub mod Shapes
 pub mod Spelling
 pub mod SpellingLinks
+pub mod Verdicts

@@ -26,7 +26,7 @@ mod sections;
 mod shapes;
 #[cfg(test)]
 mod tests;
-mod value_laws;
+mod verdict_laws;
 mod words;
 
 pub use faults::{ConfigFault, ConfigKind, ConfigRefusal};
@@ -38,5 +38,7 @@ pub use laws::{
 };
 pub use parsing::parse;
 pub use printing::print;
-pub use screen_config::{Config, Globals, Protocol, each_link_is_in_the_value};
-pub use value_laws::normal_form_is_of_the_value;
+pub use screen_config::{Config, Globals, Protocol};
+pub use verdict_laws::{
+    each_text_has_one_verdict, lines_need_a_header, normal_form_is_of_the_value,
+};

@@ -67,7 +67,7 @@ front_place_by : (t : Bool) (x k : ℕ) (xs more : List ℕ) → (x == k) ≡ t 
 front_place_by true x k xs more e h rest = rw e refl
 front_place_by false x k xs more e h rest = rw e (ap (λ n. 1 + n) (rest (rw e at h)))
 
-front_place : (keys more : List ℕ) (k : ℕ) → has_key keys k ≡ true → place_of (keys ++ more) k ≡ place_of keys k
+pub front_place : (keys more : List ℕ) (k : ℕ) → has_key keys k ≡ true → place_of (keys ++ more) k ≡ place_of keys k
 front_place [] more k h = absurd cc
 front_place (x ∷ xs) more k h = front_place_by (x == k) x k xs more refl h (front_place xs more k)
 

@@ -1,5 +1,6 @@
 pub mod AddedHotkeys
 pub mod Bounds
+pub mod KeyNumbers
 pub mod KeyPlaces
 pub mod Keyed
 pub mod LinkValues

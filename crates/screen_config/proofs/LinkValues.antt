@@ -1,8 +1,8 @@
--- Each link of a sound configuration is in its value.
-use Rattle.std.proofs.Common.{◌≡◌, ℕ, zero, suc, ◌+◌, ◌<◌, ◌≤◌, true, ◌==◌, ◌&&◌, List, [], ◌∷◌, get_or, Option, Some, None, refl, ap, sym, ◌∙◌, inl, inr, arith}
-use Rattle.std.specs.Prelude.{All, Contains}
+-- Each link of a sound configuration is in its value, and so is each alias.
+use Rattle.std.proofs.Common.{◌≡◌, ℕ, zero, suc, ◌+◌, ◌<◌, ◌≤◌, Bool, true, false, cond, ◌==◌, ◌&&◌, List, [], ◌∷◌, get_or, Option, Some, None, refl, ap, sym, ◌∙◌, inl, inr, arith}
+use Rattle.std.specs.Prelude.{All, Contains, filter}
 use Rattle.std.specs.List.{filter_map, cons_option, find, range_with_len}
-use Rattle.std.proofs.lemmas.Bool.{and_from, and_parts, cases_order, eq-eqb, eqb-true}
+use Rattle.std.proofs.lemmas.Bool.{and_from, and_parts, both_ways, cases_order, eq-eqb, eqb-true}
 use Rattle.std.proofs.lemmas.List.Elements.{All-contains, Contains-append_right}
 use Rattle.share_base.specs.declared.numbers.ScreenNo.{ScreenNo}
 use Rattle.share_base.specs.declared.shape.Side.{Side}
@@ -10,10 +10,11 @@ use Rattle.screen_links.specs.declared.link.Link.{Link}
 use Rattle.screen_links.specs.Adding.{HasGoodRanges}
 use Rattle.screen_links.specs.Apart.{AreApart}
 use Rattle.hotkey_rules.proofs.FirstFound.{found_alone}
+use Rattle.screen_config.specs.declared.screens.Alias.{Alias}
 use Rattle.screen_config.specs.Configurations.{Configuration}
 use Rattle.share_base.specs.Shapes.{same_side}
 use Rattle.screen_config.specs.Sound.{IsSound}
-use Rattle.screen_config.specs.Values.{begins_at, hundredths, link_beginning, links_on}
+use Rattle.screen_config.specs.Values.{aliases_in, names_screen, begins_at, hundredths, link_beginning, links_on}
 use Rattle.share_base.proofs.SameSides.{one_side, same_side_refl}
 
 pub record Begins (n : ℕ) (side : Side) (a : ℕ) (l : Link) : Type 0 where
@@ -68,3 +69,18 @@ link_in_value c l sound there =
     let good = All-contains HasGoodRanges c.links l sound.links.ranges there in
     kept_in (link_beginning c l.from.0 l.side) l l.range.a 0 100
     (is_found c.links l sound.links.apart sound.links.ranges there) (omega arith) (omega (arith, good.0.some, good.0.within))
+
+-- ---- aliases
+
+kept_by : (t : Bool) (x a : Alias) (xs rest : List Alias) → names_screen a.screen x ≡ t → Contains (x ∷ xs) a → (Contains xs a → Contains rest a) → Contains (cond t (x ∷ rest) rest) a
+kept_by true x a xs rest e (zero, lt, same) go = (0, omega arith, same)
+kept_by true x a xs rest e (suc k, lt, same) go = Contains-append_right (x ∷ []) rest a (go (k, omega arith, same))
+kept_by false x a xs rest e (zero, lt, same) go = absurd (both_ways (names_screen a.screen x) e (eq-eqb x.screen a.screen (ap (λ (y : Alias). y.screen) same)))
+kept_by false x a xs rest e (suc k, lt, same) go = go (k, omega arith, same)
+
+alias_kept : (aliases : List Alias) (a : Alias) → Contains aliases a → Contains (filter (names_screen a.screen) aliases) a
+alias_kept [] a c = c
+alias_kept (x ∷ xs) a c = kept_by (names_screen a.screen x) x a xs (filter (names_screen a.screen) xs) refl c (alias_kept xs a)
+
+pub alias_in_value : (c : Configuration) (a : Alias) → Contains c.aliases a → Contains (aliases_in c a.screen) a
+alias_in_value c a there = alias_kept c.aliases a there

@@ -43,9 +43,13 @@ with_keys keys (id ∷ ids) = with_keys (with_key keys id) ids
 abbrev pub actions_in : List Rule → List Action
 actions_in rules = flat_map (λ rule. rule.press ++ rule.release) rules
 
--- the keys of rules' actions, each once, in the order in which they first come
+-- the keys of rules' actions, in the order of the text
+abbrev pub keys_of_rules : List Rule → List ℕ
+keys_of_rules rules = keys_in (actions_in rules)
+
+-- the same, each once, in the order in which they first come
 unfoldable pub action_keys : List Rule → List ℕ
-action_keys rules = with_keys [] (keys_in (actions_in rules))
+action_keys rules = with_keys [] (keys_of_rules rules)
 
 -- a key's place among them
 abbrev pub place_of : List ℕ → ℕ → ℕ

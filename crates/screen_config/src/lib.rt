@@ -18,5 +18,5 @@ mod screens;
 pub use config::Config;
 pub use globals::{Globals, Protocol};
 pub use hotkeys::HotkeysFault;
-pub use laws::each_link_is_in_the_value;
+pub use laws::{action_keys_are_numbered, each_alias_is_in_the_value, each_link_is_in_the_value};
 pub use screens::{Alias, Screen};
