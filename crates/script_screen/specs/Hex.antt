@@ -1,6 +1,8 @@
 -- Bytes as texts spell them: pairs of hexadecimal digits, in capital or small letters; no bytes are a single -.
-use Rattle.std.specs.Prelude.{ℕ, ◌+◌, ◌*◌, ◌==◌, ◌&&◌, nat_le, if◌then◌else◌, List, [], ◌∷◌, length, Option, Some, None}
+use Rattle.std.specs.Prelude.{ℕ, ◌+◌, ◌*◌, ◌&&◌, nat_le, if◌then◌else◌, List, [], ◌∷◌, length, Option, Some, None, codes}
+use Rattle.std.specs.Str.{bytes_eq}
 use Rattle.std.specs.Char.{is_ascii_hexdigit, digit_value}
+use Rattle.text_lines.specs.Reading.{is_empty}
 
 -- the byte that two digits spell
 abbrev pub pair_value : ℕ → ℕ → Option ℕ
@@ -17,9 +19,7 @@ pairs_of (a ∷ []) = None
 pairs_of (a ∷ b ∷ rest) = byte_before (pair_value a b) (pairs_of rest)
 
 abbrev pub hex_of : List ℕ → Option (List ℕ)
-hex_of [] = None
-hex_of (a ∷ []) = if a == 45 then Some [] else None
-hex_of (a ∷ b ∷ rest) = pairs_of (a ∷ b ∷ rest)
+hex_of word = if bytes_eq word (codes "-") then Some [] else (if is_empty word then None else pairs_of word)
 
 abbrev pub if_within : ℕ → ℕ → Option (List ℕ) → Option (List ℕ)
 if_within least most None = None

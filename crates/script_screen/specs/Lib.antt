@@ -1,6 +1,10 @@
-pub mod Kinds
-pub mod Hex
-pub mod Grammar
-pub mod Scripts
+pub mod Answers
 pub mod ClientScripts
+pub mod Forms
+pub mod Grammar
+pub mod Hex
+pub mod Kinds
+pub mod Screens
+pub mod Scripts
+pub mod Seen
 pub mod Traces

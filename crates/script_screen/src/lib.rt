@@ -6,11 +6,15 @@
 //! of what runs a script or a trace.
 #![tactic(auto)]
 
+mod arguments;
 mod client_script;
+mod forms;
 mod kinds;
 mod limits;
+mod rows;
 mod script;
 mod trace;
+mod words;
 
 pub use client_script::{ClientLine, ClientScript};
 pub use kinds::{TextFault, TextKind};

@@ -1,0 +1,11 @@
+-- What a script's lines need to know of a configuration: its screens, by name.
+use Rattle.std.specs.Prelude.{ℕ, List, Option, length}
+use Rattle.config_text.specs.Configurations.{Configuration, screen_of}
+
+-- the number of the screen of that name or alias
+abbrev pub screen_named : Configuration → List ℕ → Option ℕ
+screen_named config name = screen_of config name
+
+-- how many screens there are
+abbrev pub screen_count : Configuration → ℕ
+screen_count config = length config.screens
