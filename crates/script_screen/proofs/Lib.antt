@@ -1,2 +1,3 @@
 pub mod PairSteps
+pub mod RowSteps
 pub mod WordSteps

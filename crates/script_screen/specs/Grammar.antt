@@ -107,16 +107,14 @@ pub record Language (Form Line Draft : Type 0) : Type 0 where
 abbrev pub form_of : {F L D : Type 0} → Language F L D → List (List ℕ) → Option F
 form_of language words = find (λ f. takes (language.row f) words) language.forms
 
--- the line that words of a form spell
+-- the line that a form's arguments make
 abbrev pub line_of : {F L D : Type 0} → Language F L D → (List ℕ → Option ℕ) → F → List (List ℕ) → Result L TextKind
-line_of language screens form words =
-    arguments_of screens (language.row form).parts (drop (length (language.row form).words) words) >>= λ values.
-    or_kind (language.line form values) kind.BadWord
+line_of language screens form arguments = arguments_of screens (language.row form).parts arguments >>= λ values. or_kind (language.line form values) kind.BadWord
 
 -- one line's words, in what the lines above it gave
 unfoldable pub words_judged : {F L D : Type 0} → Language F L D → (List ℕ → Option ℕ) → D → List (List ℕ) → Result D TextKind
 words_judged language screens draft words =
     or_kind (form_of language words) kind.BadWord >>= λ form.
     unless_kind (language.misplaced draft form) >>= λ _.
-    line_of language screens form words >>= λ line.
+    line_of language screens form (drop (length (language.row form).words) words) >>= λ line.
     language.add draft line

@@ -4,7 +4,9 @@ pub mod Forms
 pub mod Grammar
 pub mod Hex
 pub mod Kinds
+pub mod NumberedLines
 pub mod Screens
 pub mod Scripts
 pub mod Seen
+pub mod Texts
 pub mod Traces

@@ -1,6 +1,6 @@
 //! The forms of lines: which words they begin with, and how many arguments they have.
 
-ghost use Rattle.std.specs.Prelude.{◌≡◌, map};
+ghost use Rattle.std.specs.Prelude.{◌≡◌, map, length, drop, true};
 ghost use Rattle.std.specs.List.{find};
 ghost use Rattle.script_screen.specs.Forms.{script_row, script_forms, client_row, client_forms, trace_row, trace_forms};
 ghost use Rattle.script_screen.specs.Grammar.{takes};
@@ -98,6 +98,15 @@ impl ScriptForm {
         }
     }
 
+    /// The arguments of a line of this form.
+    pub(crate) fn arguments<'a, 'w>(self, words: &'a [&'w [u8]]) -> &'a [&'w [u8]]
+        requires { takes (script_row self) (map (λ w. w.now) words.now) ≡ true }
+        ensures rest { map (λ w. w.now) result.now ≡ drop (length (script_row self).words) (map (λ w. w.now) words.now) }
+        ensures count { length result.now ≡ length (script_row self).parts }
+    {
+        self.row().arguments(words)
+    }
+
     /// The form of a line of these words.
     pub(crate) fn of(words: &[&[u8]]) -> Option<ScriptForm>
         ensures { result ≡ find (λ f. takes (script_row f) (map (λ w. w.now) words.now)) script_forms }
@@ -120,6 +129,15 @@ impl ClientForm {
             ClientForm::Copy => make_row(&["copy"], 2),
             ClientForm::Resize => make_row(&["resize"], 2),
         }
+    }
+
+    /// The arguments of a line of this form.
+    pub(crate) fn arguments<'a, 'w>(self, words: &'a [&'w [u8]]) -> &'a [&'w [u8]]
+        requires { takes (client_row self) (map (λ w. w.now) words.now) ≡ true }
+        ensures rest { map (λ w. w.now) result.now ≡ drop (length (client_row self).words) (map (λ w. w.now) words.now) }
+        ensures count { length result.now ≡ length (client_row self).parts }
+    {
+        self.row().arguments(words)
     }
 
     /// The form of a line of these words.
@@ -147,6 +165,15 @@ impl TraceForm {
             TraceForm::Fail => make_row(&["fail"], 1),
             TraceForm::Room => make_row(&["room"], 2),
         }
+    }
+
+    /// The arguments of a line of this form.
+    pub(crate) fn arguments<'a, 'w>(self, words: &'a [&'w [u8]]) -> &'a [&'w [u8]]
+        requires { takes (trace_row self) (map (λ w. w.now) words.now) ≡ true }
+        ensures rest { map (λ w. w.now) result.now ≡ drop (length (trace_row self).words) (map (λ w. w.now) words.now) }
+        ensures count { length result.now ≡ length (trace_row self).parts }
+    {
+        self.row().arguments(words)
     }
 
     /// The form of a line of these words.

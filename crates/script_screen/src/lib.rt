@@ -8,6 +8,7 @@
 
 mod arguments;
 mod client_script;
+mod drafts;
 mod forms;
 mod kinds;
 mod limits;

@@ -47,7 +47,8 @@ impl Row {
     /// The arguments of a line of these words.
     pub(crate) fn arguments<'a, 'w>(&self, words: &'a [&'w [u8]]) -> &'a [&'w [u8]]
         requires { length self.now.words.now ≤ length words.now }
-        ensures { result.now ≡ drop (length self.now.words.now) words.now }
+        ensures rest { map (λ w. w.now) result.now ≡ drop (length self.now.words.now) (map (λ w. w.now) words.now) }
+        ensures count { length self.now.words.now + length result.now ≡ length words.now }
     {
         &words[self.words.len()..]
     }

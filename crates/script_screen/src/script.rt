@@ -71,6 +71,13 @@ pub struct Primary {
     pub h: u16,
 }
 
+/// What a line of a server script is: the primary screen, or one of the lines after it.
+#[derive(Debug, Drop)]
+pub(crate) enum ScriptItem {
+    Primary(Primary),
+    Line(ScriptLine),
+}
+
 /// The script of a server. It is made by `read_script` alone. Contracts see a `ScriptText`.
 ///
 /// In every script the numbers are in their ranges, and the downs and ups of each button alternate.
