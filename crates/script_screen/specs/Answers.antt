@@ -18,3 +18,8 @@ abbrev pub TextGives : {X Y : Type 0} → (X → Y) → Result X TextFault → R
 TextGives view (Ok x) read = read ≡ Ok (view x)
 TextGives view (Err (text_fault.Refused line k)) read = read ≡ Err (refused_at line k)
 TextGives view (Err text_fault.OutOfMemory) read = Unit {0}
+
+-- a refusal is that which the text has
+abbrev pub RefusedBy : (TextRefusal → Type 0) → TextFault → Type 0
+RefusedBy Refuses (text_fault.Refused line k) = Refuses (refused_at line k)
+RefusedBy Refuses text_fault.OutOfMemory = Unit {0}

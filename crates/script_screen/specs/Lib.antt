@@ -3,6 +3,7 @@ pub mod ClientScripts
 pub mod Forms
 pub mod Grammar
 pub mod Hex
+pub mod Holding
 pub mod Kinds
 pub mod NumberedLines
 pub mod Screens
@@ -10,3 +11,4 @@ pub mod Scripts
 pub mod Seen
 pub mod Texts
 pub mod Traces
+pub mod Verdicts

@@ -8,6 +8,8 @@ use Rattle.script_screen.specs.declared.kinds.TextKind.TheVariants as kind
 use Rattle.script_screen.specs.declared.script.ScriptLine.{ScriptLine}
 use Rattle.script_screen.specs.declared.script.ScriptLine.TheVariants as line
 use Rattle.script_screen.specs.declared.script.Primary.{Primary}
+use Rattle.script_screen.specs.declared.script.ScriptItem.{ScriptItem}
+use Rattle.script_screen.specs.declared.script.ScriptItem.TheVariants as item
 
 -- the primary screen and the lines behind it
 pub record ScriptText : Type 0 where
@@ -35,13 +37,22 @@ key_is_down lines b = fold (key_after b) false lines
 abbrev pub button_is_down : List ScriptLine → ℕ → Bool
 button_is_down lines b = fold (button_after b) false lines
 
+-- a button goes down where it is up, and is repeated and goes up where it is down
+abbrev pub if_down : Bool → Option TextKind
+if_down true = Some kind.AlreadyDown
+if_down false = None
+
+abbrev pub unless_down : Bool → Option TextKind
+unless_down true = None
+unless_down false = Some kind.NotDown
+
 -- what is wrong with a line below these
 abbrev pub script_fault : List ScriptLine → ScriptLine → Option TextKind
-script_fault above (line.KeyDown id button) = if key_is_down above button.0 then Some kind.AlreadyDown else None
-script_fault above (line.KeyRepeat count button) = if key_is_down above button.0 then None else Some kind.NotDown
-script_fault above (line.KeyUp button) = if key_is_down above button.0 then None else Some kind.NotDown
-script_fault above (line.ButtonDown button) = if button_is_down above button.0 then Some kind.AlreadyDown else None
-script_fault above (line.ButtonUp button) = if button_is_down above button.0 then None else Some kind.NotDown
+script_fault above (line.KeyDown id button) = if_down (key_is_down above button.0)
+script_fault above (line.KeyRepeat count button) = unless_down (key_is_down above button.0)
+script_fault above (line.KeyUp button) = unless_down (key_is_down above button.0)
+script_fault above (line.ButtonDown button) = if_down (button_is_down above button.0)
+script_fault above (line.ButtonUp button) = unless_down (button_is_down above button.0)
 script_fault above _ = None
 
 -- ---- what every script keeps
@@ -66,6 +77,11 @@ AreScriptLines above (l ∷ ls) = IsScriptLine l × (script_fault above l ≡ No
 abbrev pub IsPrimary : Primary → Type 0
 IsPrimary p = (1 ≤ p.w) × (p.w ≤ 32767) × (1 ≤ p.h) × (p.h ≤ 32767)
 
+-- a line, or the primary screen
+abbrev pub IsScriptItem : ScriptItem → Type 0
+IsScriptItem (item.Primary p) = IsPrimary p
+IsScriptItem (item.Line l) = IsScriptLine l
+
 pub record IsScript (s : ScriptText) : Type 0 where
   pub primary : IsPrimary s.primary
   pub lines : AreScriptLines [] s.lines
@@ -77,6 +93,10 @@ pub record IsScript (s : ScriptText) : Type 0 where
 abbrev pub NamesBelow : ℕ → ScriptLine → Type 0
 NamesBelow count (line.Await screen) = screen.0 < count
 NamesBelow count _ = Unit {0}
+
+abbrev pub NamesItemBelow : ℕ → ScriptItem → Type 0
+NamesItemBelow count (item.Primary p) = p.screen.0 < count
+NamesItemBelow count (item.Line l) = NamesBelow count l
 
 -- every screen of the script is below that number
 abbrev pub ScreensBelow : ℕ → ScriptText → Type 0

@@ -4,7 +4,7 @@ use Rattle.std.specs.Prelude.{ℕ, ◌==◌, if◌then◌else◌, List, [], ◌�
 use Rattle.text_lines.specs.Reading.{◌>>=◌}
 use Rattle.share_base.specs.declared.clip_id.ClipId.{ClipId}
 use Rattle.share_base.specs.declared.clip_id.ClipId.TheVariants.{Clipboard, Selection}
-use Rattle.script_screen.specs.Screens.{KnownScreens}
+use Rattle.script_screen.specs.Screens.{KnownScreens, screen_named}
 use Rattle.script_screen.specs.declared.kinds.TextKind.{TextKind}
 use Rattle.script_screen.specs.declared.kinds.TextKind.TheVariants as kind
 use Rattle.script_screen.specs.declared.forms.ScriptForm.{ScriptForm}
@@ -22,9 +22,10 @@ use Rattle.script_screen.specs.declared.client_script.ClientLine.{ClientLine}
 use Rattle.script_screen.specs.declared.client_script.ClientLine.TheVariants as client_line
 use Rattle.script_screen.specs.declared.trace.TraceLine.{TraceLine}
 use Rattle.script_screen.specs.declared.trace.TraceLine.TheVariants as trace_line
-use Rattle.script_screen.specs.Grammar.{Language, Value, Natural, Integer, Bytes, Chosen, unless_kind}
+use Rattle.script_screen.specs.Grammar.{Language, Value, Natural, Integer, Bytes, Chosen, unless_kind, words_judged}
 use Rattle.script_screen.specs.Forms.{script_forms, script_row, client_forms, client_row, trace_forms, trace_row}
-use Rattle.script_screen.specs.Scripts.{script_fault}
+use Rattle.script_screen.specs.NumberedLines.{TextRefusal, refused_at, text_judged}
+use Rattle.script_screen.specs.Scripts.{ScriptText, script_fault}
 use Rattle.script_screen.specs.Traces.{trace_fault}
 
 -- the clipboard of a number, 0 or 1
@@ -124,3 +125,30 @@ trace_language = record {
   line = trace_item;
   add = trace_add;
 }
+
+-- ---- one line's words, in what the lines above it gave
+
+abbrev pub script_start : KnownScreens → ScriptSoFar
+script_start config = record { config = config; primary = None; lines = [] }
+
+abbrev pub script_judged : ScriptSoFar → List (List ℕ) → Result ScriptSoFar TextKind
+script_judged s words = words_judged script_language (screen_named s.config) s words
+
+-- a client script and a trace name no screens
+abbrev pub no_screens : List ℕ → Option ℕ
+no_screens name = None
+
+abbrev pub client_judged : List ClientLine → List (List ℕ) → Result (List ClientLine) TextKind
+client_judged lines words = words_judged client_language no_screens lines words
+
+abbrev pub trace_judged : List TraceLine → List (List ℕ) → Result (List TraceLine) TextKind
+trace_judged lines words = words_judged trace_language no_screens lines words
+
+-- ---- a server script is closed by its end: some line was the primary's
+
+abbrev pub script_closed : Option Primary → List ScriptLine → Result ScriptText TextRefusal
+script_closed None ls = Err (refused_at 1 kind.NoPrimary)
+script_closed (Some p) ls = Ok (record { primary = p; lines = ls })
+
+abbrev pub script_reading : KnownScreens → List ℕ → Result ScriptText TextRefusal
+script_reading config text = text_judged script_judged (script_start config) text >>= λ d. script_closed d.primary d.lines

@@ -1,15 +1,14 @@
 //! A text, read line by line.
 
-ghost use Rattle.std.specs.Prelude.{◌≡◌, ◌+◌, ◌≤◌, ◌<◌, List, ℕ, Result, Err, OnOk, length, map};
+ghost use Rattle.std.specs.Prelude.{◌≡◌, ◌+◌, ◌≤◌, List, ℕ, Result, OnOk};
 ghost use Rattle.text_lines.specs.Lines.{line_text};
+ghost use Rattle.text_lines.specs.Words.{words_of};
 ghost use Rattle.script_screen.specs.declared.kinds.TextKind.{TextKind as Kind};
-ghost use Rattle.script_screen.specs.declared.kinds.TextKind.TheVariants.{BadWord as bad_word};
 ghost use Rattle.script_screen.specs.Answers.{LineGives, TextGives};
 ghost use Rattle.script_screen.specs.NumberedLines.{line_judged, text_judged};
 
 use crate::kinds::{LineFault, TextFault, TextKind};
 use crate::limits::MAX_LINES;
-use crate::words::split_words;
 use text_lines::{TextLine, cut_line, text_line};
 
 /// What the lines of a text gave so far.
@@ -20,13 +19,10 @@ pub(crate) trait Draft {
     /// How many lines it holds.
     ghost size: { Self → ℕ };
 
-    /// Takes the words of one more line.
-    fn take(&mut self, words: &[&[u8]]) -> Result<(), LineFault>
-        ensures gives { LineGives (λ _. self.new) result (judged self.old (map (λ w. w.now) words.now)) }
+    /// Takes one more line, of these words and the blanks between them.
+    fn take(&mut self, line: &[u8]) -> Result<(), LineFault>
+        ensures gives { LineGives (λ _. self.new) result (judged self.old (words_of line.now)) }
         ensures grows { OnOk result (size self.new ≤ size self.old + 1) };
-
-    /// A line of more than four words is of no form.
-    ghost short: { (draft : Self) (words : List (List ℕ)) → 4 < length words → judged draft words ≡ Err bad_word };
 }
 
 fn take_line<D: Draft>(draft: &mut D, raw: &[u8]) -> Result<(), LineFault>
@@ -36,10 +32,7 @@ fn take_line<D: Draft>(draft: &mut D, raw: &[u8]) -> Result<(), LineFault>
     match text_line(raw) {
         TextLine::Empty => Ok(()),
         TextLine::Forbidden(_) => Err(LineFault::Refused(TextKind::BadWord)),
-        TextLine::Words(bytes, _) => match split_words(bytes) {
-            None => Err(LineFault::Refused(TextKind::BadWord)),
-            Some(words) => draft.take(words.as_slice()),
-        },
+        TextLine::Words(line, _) => draft.take(line),
     }
 }
 

@@ -7,9 +7,12 @@
 #![tactic(auto)]
 
 mod arguments;
+mod client_reading;
 mod client_script;
 mod drafts;
 mod forms;
+mod held;
+mod items;
 mod kinds;
 mod limits;
 mod rows;
@@ -17,6 +20,7 @@ mod script;
 mod trace;
 mod words;
 
+pub use client_reading::read_client_script;
 pub use client_script::{ClientLine, ClientScript};
 pub use kinds::{TextFault, TextKind};
 pub use limits::{MAX_BUTTON, MAX_COPY, MAX_LINES, MAX_SIZE, MAX_SLEEP};
