@@ -18,7 +18,7 @@ use Rattle.script_screen.specs.Answers.{TextGives, RefusedBy}
 use Rattle.script_screen.specs.Screens.{KnownScreens}
 use Rattle.script_screen.specs.Scripts.{ScriptText}
 use Rattle.script_screen.specs.Texts.{ScriptSoFar, script_start, script_judged, client_judged, trace_judged, script_closed, script_reading}
-use Rattle.script_screen.specs.Verdicts.{ScriptAccepts, ScriptRefuses, HasNoPrimary, ClientAccepts, ClientRefuses, TraceAccepts, TraceRefuses}
+use Rattle.script_screen.specs.Verdicts.{HasOneVerdict, ScriptAccepts, ScriptRefuses, HasNoPrimary, ClientAccepts, ClientRefuses, TraceAccepts, TraceRefuses}
 
 -- a reading gives a value exactly where that is accepted, and a refusal exactly where that is the text's
 pub record IsReading {V : Type 0} (reading : Result V TextRefusal) (Accepts : V → Type 0) (Refuses : TextRefusal → Type 0) : Type 0 where
@@ -104,3 +104,30 @@ script_refused config text r (inr h) =
 
 pub is_script_reading : (config : KnownScreens) (text : List ℕ) → IsReading (script_reading config text) (ScriptAccepts config text) (ScriptRefuses config text)
 is_script_reading config text = record { accepts = script_good config text; accepted = script_taken config text; refuses = script_bad config text; refused = script_refused config text }
+
+-- ---- one verdict
+
+some_by : {V : Type 0} {reading : Result V TextRefusal} {Accepts : V → Type 0} {Refuses : TextRefusal → Type 0} → IsReading reading Accepts Refuses → (r : Result V TextRefusal) → reading ≡ r
+    → ((v : V) × Accepts v) ⊎ ((r : TextRefusal) × Refuses r)
+some_by is (Ok v) h = inl (v, is.accepts v h)
+some_by is (Err r) h = inr (r, is.refuses r h)
+
+apart : {V : Type 0} (v : V) (r : TextRefusal) (x : Result V TextRefusal) → x ≡ Ok v → x ≡ Err r → ⊥
+apart v r (Ok w) h k = absurd cc
+apart v r (Err s) h k = absurd cc
+
+same_ok : {V : Type 0} (v w : V) (x : Result V TextRefusal) → x ≡ Ok v → x ≡ Ok w → v ≡ w
+same_ok v w (Ok x) h k = cc
+same_ok v w (Err r) h k = absurd cc
+
+same_err : {V : Type 0} (r s : TextRefusal) (x : Result V TextRefusal) → x ≡ Err r → x ≡ Err s → r ≡ s
+same_err r s (Ok x) h k = absurd cc
+same_err r s (Err t) h k = cc
+
+pub one_verdict : {V : Type 0} (reading : Result V TextRefusal) {Accepts : V → Type 0} {Refuses : TextRefusal → Type 0} → IsReading reading Accepts Refuses → HasOneVerdict Accepts Refuses
+one_verdict reading is = record {
+  some = some_by is reading refl;
+  not_both = λ v r a f. apart v r reading (is.accepted v a) (is.refused r f);
+  one_value = λ v w a b. same_ok v w reading (is.accepted v a) (is.accepted w b);
+  one_refusal = λ r s a b. same_err r s reading (is.refused r a) (is.refused s b);
+}

@@ -11,4 +11,5 @@ pub mod Scripts
 pub mod Seen
 pub mod Texts
 pub mod Traces
+pub mod Tracking
 pub mod Verdicts

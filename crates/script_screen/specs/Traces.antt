@@ -41,6 +41,10 @@ is_known above c = (c == 1) || list_any (is_join_of c) above
 abbrev pub is_over : List TraceLine → ℕ → Bool
 is_over above c = list_any (is_end_of c) above
 
+-- bytes and a further end may come of it
+abbrev pub is_going : List TraceLine → ℕ → Bool
+is_going above c = is_known above c && not (is_over above c)
+
 abbrev pub unless_known : Bool → Option TextKind
 unless_known true = None
 unless_known false = Some kind.UnknownConnection
@@ -49,9 +53,9 @@ unless_known false = Some kind.UnknownConnection
 abbrev pub trace_fault : List TraceLine → TraceLine → Option TextKind
 trace_fault above (line.Turn t) = if nat_lt t (latest_moment above) then Some kind.MomentBack else None
 trace_fault above (line.Join c) = if c == join_count above + 1 then None else Some kind.WrongNumber
-trace_fault above (line.Got c bytes) = unless_known (is_known above c && not (is_over above c))
-trace_fault above (line.End c) = unless_known (is_known above c && not (is_over above c))
-trace_fault above (line.Fail c) = unless_known (is_known above c && not (is_over above c))
+trace_fault above (line.Got c bytes) = unless_known (is_going above c)
+trace_fault above (line.End c) = unless_known (is_going above c)
+trace_fault above (line.Fail c) = unless_known (is_going above c)
 trace_fault above (line.Room c room) = unless_known (is_known above c)
 
 -- the line gives a byte at least, where it gives any

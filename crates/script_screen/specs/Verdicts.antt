@@ -44,3 +44,12 @@ TraceAccepts text trace = LeadsOver (numbered trace_judged) 1 [] (lines text) tr
 
 abbrev pub TraceRefuses : List ℕ → TextRefusal → Type 0
 TraceRefuses text r = OffendsIn (numbered trace_judged) [] (lines text) r
+
+-- ---- one verdict
+
+-- something is accepted or something is refused, and not both; one value at most, and one refusal at most
+pub record HasOneVerdict {V : Type 0} (Accepts : V → Type 0) (Refuses : TextRefusal → Type 0) : Type 0 where
+  pub some : ((v : V) × Accepts v) ⊎ ((r : TextRefusal) × Refuses r)
+  pub not_both : (v : V) (r : TextRefusal) → Accepts v → Refuses r → ⊥
+  pub one_value : (v w : V) → Accepts v → Accepts w → v ≡ w
+  pub one_refusal : (r s : TextRefusal) → Refuses r → Refuses s → r ≡ s

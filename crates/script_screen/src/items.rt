@@ -9,6 +9,7 @@ ghost use Rattle.script_screen.specs.Screens.{screen_named, screen_count};
 ghost use Rattle.script_screen.specs.Scripts.{IsScriptItem, NamesItemBelow};
 ghost use Rattle.script_screen.specs.Texts.{script_language, client_language, trace_language, clip_of};
 ghost use Rattle.script_screen.specs.Traces.{IsTraceLine};
+ghost use Rattle.script_screen.specs.Tracking.{MakesTurn};
 
 use crate::arguments::{
     Sizes, Within, number_and_bytes, one_number, one_screen, sized_screen, two_numbers, two_signed,
@@ -187,6 +188,7 @@ impl TraceForm {
         requires { length arguments.now ≡ length (trace_row self).parts }
         ensures gives { (screens : List ℕ → Option ℕ) → LineGives (λ i. i) result (line_of trace_language screens self (map (λ w. w.now) arguments.now)) }
         ensures sound { IfOk result IsTraceLine }
+        ensures turn { IfOk result (MakesTurn self) }
     {
         match self {
             TraceForm::Turn => Ok(TraceLine::Turn(one_number(arguments, ANY)?)),

@@ -4,6 +4,7 @@ ghost use Rattle.std.specs.Prelude.{◌≡◌};
 ghost use Rattle.script_screen.specs.Kinds.{text_kind_word};
 
 use share_base::OutOfMemory;
+use std::alloc::AllocError;
 use thiserror::Error;
 
 /// What is wrong with a line. On one line the kinds are looked for in this order.
@@ -90,6 +91,17 @@ impl From<OutOfMemory> for LineFault {
     ghost from_gives = { λ _ e. e ≡ no_memory };
 
     fn from(_error: OutOfMemory) -> LineFault {
+        LineFault::OutOfMemory
+    }
+}
+
+impl From<AllocError> for LineFault {
+    ghost use Rattle.std.specs.Prelude.{◌≡◌};
+    ghost use Rattle.script_screen.specs.declared.kinds.LineFault.TheVariants.{OutOfMemory as no_memory};
+
+    ghost from_gives = { λ _ e. e ≡ no_memory };
+
+    fn from(_error: AllocError) -> LineFault {
         LineFault::OutOfMemory
     }
 }

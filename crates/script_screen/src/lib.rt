@@ -14,15 +14,24 @@ mod forms;
 mod held;
 mod items;
 mod kinds;
+mod laws;
 mod limits;
 mod rows;
 mod script;
+mod script_reading;
+#[cfg(test)]
+mod tests;
 mod trace;
+mod trace_reading;
+mod track;
 mod words;
 
 pub use client_reading::read_client_script;
 pub use client_script::{ClientLine, ClientScript};
 pub use kinds::{TextFault, TextKind};
+pub use laws::each_text_has_one_verdict;
 pub use limits::{MAX_BUTTON, MAX_COPY, MAX_LINES, MAX_SIZE, MAX_SLEEP};
 pub use script::{Primary, Script, ScriptLine};
+pub use script_reading::read_script;
 pub use trace::{Trace, TraceLine};
+pub use trace_reading::read_trace;
