@@ -1,5 +1,5 @@
 -- What an injector keeps of a screen, and what its calls tell.
-use Rattle.std.specs.Prelude.{◌≡◌, ℕ, List, [], false, slice_index_or}
+use Rattle.std.specs.Prelude.{◌≡◌, ℕ, List, [], ◌++◌, false, slice_index_or}
 use Rattle.std.specs.List.{flat_map, AllByRecursion}
 use Rattle.modifier_map.specs.declared.map.ModMap.{ModMap}
 use Rattle.held_inputs.specs.declared.line.Line.{Line}
@@ -30,8 +30,8 @@ pub record Tells (old new : Injector) (call : Call) (lines : List Line) : Type 0
   pub stands : (s : Screen) → Stands old s → Stands new (after s call)
   pub gives : (s : Screen) → Stands old s → lines ≡ lines_of s call
 
--- the same, with the lines as text, which is read in one way since each line is in its ranges
-pub record Prints (old new : Injector) (call : Call) (printed : List ℕ) : Type 0 where
+-- the same, with the lines printed after what was there before; they are read in one way, since each is in its ranges
+pub record Prints (old new : Injector) (call : Call) (before printed : List ℕ) : Type 0 where
   pub stands : (s : Screen) → Stands old s → Stands new (after s call)
-  pub gives : (s : Screen) → Stands old s → printed ≡ flat_map line_of (lines_of s call)
+  pub gives : (s : Screen) → Stands old s → printed ≡ before ++ flat_map line_of (lines_of s call)
   pub fits : (s : Screen) → Stands old s → AllByRecursion Fits (lines_of s call)

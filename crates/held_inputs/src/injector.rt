@@ -1,6 +1,6 @@
 //! What a message does to a screen.
 
-ghost use Rattle.std.specs.Prelude.{◌≡◌, ◌↔◌, ◌≤◌, ℕ, [], IsTrue, IfSome, length};
+ghost use Rattle.std.specs.Prelude.{◌≡◌, ◌↔◌, ◌≤◌, ◌+◌, ◌++◌, ℕ, [], IsTrue, IfSome, length};
 ghost use Rattle.std.specs.List.{flat_map};
 ghost use Rattle.std.specs.Option.{option_to_list, ForSome};
 ghost use Rattle.message_codec.specs.declared.messages.Msg.TheVariants as message;
@@ -15,7 +15,7 @@ use crate::line::Line;
 use crate::printing::put_line;
 use message_codec::Msg;
 use modifier_map::ModMap;
-use share_base::{KeyId, Lines, Mask};
+use share_base::{Buffer, KeyId, Lines, Mask, ShortLine};
 
 /// Turns messages into the lines that a screen prints. It keeps what is down there, and the map of
 /// modifiers. No call takes memory.
@@ -54,41 +54,54 @@ impl Injector {
     /// their lines and calls `set_option` and `reset_options`; so do those for which none is printed.
     /// No answer is longer than the releases with `leave` after them.
     pub fn apply(&mut self, msg: &Msg) -> Lines
-        ensures prints { Prints self.old self.new (Applies msg.now) result }
+        ensures prints { Prints self.old self.new (Applies msg.now) [] result }
         ensures bound { length result ≤ 13830 }
     {
+        let mut lines = Lines::new();
+        self.apply_to(msg, &mut lines);
+        lines
+    }
+
+    /// Appends the lines that `apply` returns to a buffer that has room for them.
+    pub fn apply_to<B: Buffer>(&mut self, msg: &Msg, lines: &mut B)
+        requires { length (B.content lines.old) + 13830 ≤ B.capacity lines.old }
+        ensures prints { Prints self.old self.new (Applies msg.now) (B.content lines.old) (B.content lines.new) }
+        ensures bound { length (B.content lines.new) ≤ length (B.content lines.old) + 13830 }
+    {
         match msg {
-            Msg::Enter { x, y, seq, mask } => one(self.enter(*x, *y, *seq, *mask)),
-            Msg::Leave => self.leave(),
-            Msg::KeyDown { id, mask, button } => one(self.press(*id, *mask, *button)),
+            Msg::Enter { x, y, seq, mask } => put_one(lines, self.enter(*x, *y, *seq, *mask)),
+            Msg::Leave => self.leave(lines),
+            Msg::KeyDown { id, mask, button } => put_one(lines, self.press(*id, *mask, *button)),
             Msg::KeyRepeat {
                 id: _,
                 mask,
                 count,
                 button,
-            } => one(self.repeat(*mask, *count, *button)),
+            } => put_one(lines, self.repeat(*mask, *count, *button)),
             Msg::KeyUp {
                 id: _,
                 mask: _,
                 button,
-            } => one(self.lift(*button)),
-            Msg::ButtonDown { b } => one(self.push(*b)),
-            Msg::ButtonUp { b } => one(self.let_go(*b)),
-            Msg::MoveTo { x, y } => one(Some(Line::MoveTo { x: *x, y: *y })),
-            Msg::MoveBy { dx, dy } => one(Some(Line::MoveBy { dx: *dx, dy: *dy })),
-            Msg::Wheel { dx, dy } => one(Some(Line::Wheel { dx: *dx, dy: *dy })),
-            Msg::Saver { on } => one(Some(saver(*on))),
-            _ => Lines::new(),
+            } => put_one(lines, self.lift(*button)),
+            Msg::ButtonDown { b } => put_one(lines, self.push(*b)),
+            Msg::ButtonUp { b } => put_one(lines, self.let_go(*b)),
+            Msg::MoveTo { x, y } => put_one(lines, Some(Line::MoveTo { x: *x, y: *y })),
+            Msg::MoveBy { dx, dy } => put_one(lines, Some(Line::MoveBy { dx: *dx, dy: *dy })),
+            Msg::Wheel { dx, dy } => put_one(lines, Some(Line::Wheel { dx: *dx, dy: *dy })),
+            Msg::Saver { on } => put_one(lines, Some(saver(*on))),
+            _ => {}
         }
     }
 
     /// The ups of all that is down: the keys by rising button, then the mouse buttons by rising
     /// number. After it nothing is down. The bound is 512 keys at 19 bytes and 256 mouse buttons at 16.
     pub fn release_all(&mut self) -> Lines
-        ensures prints { Prints self.old self.new ReleasesAll result }
+        ensures prints { Prints self.old self.new ReleasesAll [] result }
         ensures bound { length result ≤ 13824 }
     {
-        self.held.release()
+        let mut lines = Lines::new();
+        self.held.release(&mut lines);
+        lines
     }
 
     /// Whether nothing is down.
@@ -107,13 +120,13 @@ impl Injector {
         Some(Line::Enter { x, y, seq, mask })
     }
 
-    fn leave(&mut self) -> Lines
-        ensures prints { Prints self.old self.new (Applies message.Leave) result }
-        ensures bound { length result ≤ 13830 }
+    fn leave<B: Buffer>(&mut self, lines: &mut B)
+        requires { length (B.content lines.old) + 13830 ≤ B.capacity lines.old }
+        ensures prints { Prints self.old self.new (Applies message.Leave) (B.content lines.old) (B.content lines.new) }
+        ensures bound { length (B.content lines.new) ≤ length (B.content lines.old) + 13830 }
     {
-        let mut lines = self.release_all();
-        put_line(&mut lines, Line::Leave);
-        lines
+        self.held.release(lines);
+        put_line(lines, Line::Leave);
     }
 
     fn press(&mut self, id: u16, mask: u16, button: u16) -> Option<Line>
@@ -215,14 +228,16 @@ fn saver(on: u8) -> Line
 }
 
 /// At most one line.
-fn one(line: Option<Line>) -> Lines
-    requires { ForSome line IsShort }
-    ensures printed { result ≡ flat_map line_of (option_to_list line) }
-    ensures bound { length result ≤ 37 }
+fn put_one<B: Buffer>(lines: &mut B, line: Option<Line>)
+    requires short { ForSome line IsShort }
+    requires fits { length (B.content lines.old) + 37 ≤ B.capacity lines.old }
+    ensures printed { B.content lines.new ≡ B.content lines.old ++ flat_map line_of (option_to_list line) }
+    ensures bound { length (B.content lines.new) ≤ length (B.content lines.old) + 37 }
 {
-    let mut lines = Lines::new();
-    if let Some(line) = line {
-        put_line(&mut lines, line);
-    }
-    lines
+    let Some(line) = line else {
+        return;
+    };
+    let mut text = ShortLine::new();
+    put_line(&mut text, line);
+    lines.extend(text.as_slice());
 }

@@ -1,6 +1,6 @@
 -- What a script's lines need to know of a configuration: its screens, by name.
 use Rattle.std.specs.Prelude.{ℕ, List, Option, length}
-use Rattle.config_text.specs.Configurations.{Configuration, screen_of}
+use Rattle.screen_config.specs.Configurations.{Configuration, screen_of}
 
 abbrev pub KnownScreens : Type 0
 KnownScreens = Configuration

@@ -11,7 +11,7 @@ ghost use Rattle.script_screen.specs.Hex.{pair_value, pairs_of, bytes_within};
 ghost use Rattle.script_screen.specs.Screens.{screen_named, screen_count};
 
 use crate::kinds::{LineFault, TextKind};
-use config_text::Config;
+use screen_config::Config;
 use share_base::{Octets, ScreenNo};
 use std::alloc::Global;
 use text_lines::{decimal, decimal_u64};

@@ -20,7 +20,7 @@ use crate::kinds::LineFault;
 use crate::limits::{MAX_BUTTON, MAX_COPY, MAX_SIZE, MAX_SLEEP};
 use crate::script::{Primary, ScriptItem, ScriptLine};
 use crate::trace::TraceLine;
-use config_text::Config;
+use screen_config::Config;
 use share_base::{Button, ClipId, KeyId, MouseButton};
 use std::alloc::Global;
 

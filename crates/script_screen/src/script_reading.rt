@@ -14,7 +14,7 @@ use crate::held::Held;
 use crate::kinds::{LineFault, TextFault, TextKind};
 use crate::script::{Primary, Script, ScriptItem, ScriptLine};
 use crate::words::split_words;
-use config_text::Config;
+use screen_config::Config;
 use std::alloc::Global;
 use std::marker::Model;
 

@@ -10,3 +10,4 @@ pub mod Stored
 pub mod Screens
 pub mod Shapes
 pub mod Sides
+pub mod Fronts

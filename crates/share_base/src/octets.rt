@@ -1,8 +1,10 @@
 //! A list of bytes.
 
 ghost use Rattle.std.specs.Prelude.{◌≡◌, ◌++◌, ◌∷◌, [], List, ℕ, length, take, OnOk, OnErr};
+ghost use Rattle.std.specs.Int.{w16, w32, to_be_bytes};
 
 use crate::out_of_memory::OutOfMemory;
+use byteorder::{BigEndian, ByteOrder};
 use std::alloc::Global;
 use std::marker::Model;
 
@@ -44,6 +46,26 @@ impl Octets {
     {
         self.bytes.extend_from_slice(bytes)?;
         Ok(())
+    }
+
+    /// Appends the two bytes of a number, the higher one first. On `OutOfMemory` the list is unchanged.
+    pub fn extend_u16(&mut self, number: u16) -> Result<(), OutOfMemory>
+        ensures ok { OnOk result (self.new ≡ self.old ++ to_be_bytes w16 number) }
+        ensures err { OnErr result (self.new ≡ self.old) }
+    {
+        let mut bytes = [0; 2];
+        BigEndian::write_u16(&mut bytes, number);
+        self.extend(&bytes)
+    }
+
+    /// Appends the four bytes of a number, the highest one first. On `OutOfMemory` the list is unchanged.
+    pub fn extend_u32(&mut self, number: u32) -> Result<(), OutOfMemory>
+        ensures ok { OnOk result (self.new ≡ self.old ++ to_be_bytes w32 number) }
+        ensures err { OnErr result (self.new ≡ self.old) }
+    {
+        let mut bytes = [0; 4];
+        BigEndian::write_u32(&mut bytes, number);
+        self.extend(&bytes)
     }
 
     /// Takes all bytes away, and keeps the memory.

@@ -1,0 +1,9 @@
+pub mod AddedHotkeys
+pub mod Bounds
+pub mod KeyPlaces
+pub mod Keyed
+pub mod LinkValues
+pub mod NamesApart
+pub mod SoundHotkeys
+pub mod SoundStarts
+pub mod SoundSteps
