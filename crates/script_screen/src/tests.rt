@@ -4,8 +4,8 @@ use crate::TextKind::{
 };
 use crate::tests::Which::{Client, Server, Turns};
 use crate::*;
-use config_text::{Config, parse};
-use share_base::ScreenNo;
+use screen_config::Config;
+use share_base::{ScreenName, ScreenNo};
 use std::alloc::Global;
 use std::process::Abort;
 use std::test::*;
@@ -73,7 +73,7 @@ fn keys_and_pauses() -> [Row; 23] {
             b"primary desk 1920 1080\nsleep 1x",
             Some((2, BadNumber)),
         ),
-        Row(Server, b"primary desk 1920 1080\nawait TAB", None),
+        Row(Server, b"primary desk 1920 1080\nawait PAD", None),
         Row(
             Server,
             b"primary desk 1920 1080\nawait nobody",
@@ -308,11 +308,18 @@ fn connections() -> [Row; 15] {
     ]
 }
 
+fn with_screen(mut config: Config, name: &[u8]) -> Result<Config, Fail> {
+    let name = ScreenName::read(name).ok_or("no name")?;
+    if config.count() < 64 && config.find(name.as_slice()).is_none() {
+        config.add_screen(name)?;
+    }
+    Ok(config)
+}
+
+/// The screens desk and pad.
 fn screens(alloc: Global) -> Result<Config, Fail> {
-    Ok(parse(
-        alloc,
-        b"section: screens\ndesk:\npad:\nend\nsection: aliases\npad:\ntab\nend",
-    )?)
+    let config = with_screen(Config::new(alloc), b"desk")?;
+    with_screen(config, b"pad")
 }
 
 fn refusal<T: Drop>(read: Result<T, TextFault>) -> Result<Option<(u32, TextKind)>, Fail> {
