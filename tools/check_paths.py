@@ -2,7 +2,7 @@
 """Fails if a document names a file that the repository does not have.
 
 A file is named in backticks or as the target of a link. It is looked up from the top, beside the document, in
-crates/, and in each crate and its specs/.
+examples/, in crates/, and in each crate and its specs/.
 """
 
 import pathlib
@@ -10,9 +10,9 @@ import re
 import sys
 
 TOP = pathlib.Path(__file__).resolve().parent.parent
-ENDINGS = "rt|antt|edit|py|rs|md|conf|bin|out|txt"
+ENDINGS = "rt|antt|edit|py|rs|md|conf|bin|out|script|trace|txt"
 NAMED = re.compile(rf"`((?:[\w.-]+/)*[\w.-]+\.(?:{ENDINGS}))`|\]\(((?!http)[^)#]+)\)")
-PLACES = ("", "crates/", "crates/*/", "crates/*/specs/")
+PLACES = ("", "examples/", "crates/", "crates/*/", "crates/*/specs/")
 
 
 def is_there(document, name):
