@@ -1,3 +1,4 @@
 pub mod Pairs
 pub mod Screens
 pub mod Streams
+pub mod ScreenRanges

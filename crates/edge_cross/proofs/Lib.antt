@@ -1,2 +1,2 @@
-pub mod Passed
-pub mod Counted
+pub mod Edges
+pub mod Pixels

@@ -4,13 +4,17 @@ ghost use Rattle.std.specs.Prelude.{◌≡◌, ◌≤◌, ◌<◌, ◌+◌, ◌*
 ghost use Rattle.std.specs.Int.{w32, to_be_bytes};
 ghost use Rattle.std.specs.Fmt.{decimal, signed_decimal};
 ghost use Rattle.held_inputs.specs.Line.{line_of, room_of, text};
-ghost use Rattle.message_codec.specs.Showing.{hex_digit, hex, after_blank};
+ghost use Rattle.share_base.specs.Hex.{hex};
+ghost use Rattle.message_codec.specs.Showing.{after_blank};
 
 use crate::line::Line;
-use share_base::{Buffer, put_i16, put_u16, put_u32};
+use share_base::{Buffer, hex_pair, put_i16, put_u16, put_u32};
 
-/// Prints a line and its newline at the end of `lines`. They have to fit: `room_of` has, for each
-/// kind of line, the most bytes that it takes.
+/// The longest line of a message other than an option or a clipboard, in bytes.
+pub const LONGEST_LINE: usize = 37;
+
+/// Appends a line and its newline, which have to fit: `room_of` has the most bytes that each kind of
+/// line takes.
 pub fn put_line<B: Buffer>(lines: &mut B, line: Line)
     requires { length (B.content lines.old) + room_of line ≤ B.capacity lines.old }
     ensures printed { B.content lines.new ≡ B.content lines.old ++ line_of line }
@@ -43,9 +47,10 @@ pub fn put_line<B: Buffer>(lines: &mut B, line: Line)
 }
 
 fn put_enter<B: Buffer>(lines: &mut B, x: i16, y: i16, seq: u32, mask: u16)
-    requires { length (B.content lines.old) + 37 ≤ B.capacity lines.old }
-    ensures printed { B.content lines.new ≡ B.content lines.old ++ text (codes "enter") (signed_decimal x ∷ signed_decimal y ∷ decimal seq ∷ decimal mask ∷ []) }
-    ensures bound { length (B.content lines.new) ≤ length (B.content lines.old) + 37 }
+    requires { length (B.content lines.old) + LONGEST_LINE ≤ B.capacity lines.old }
+    ensures printed { B.content lines.new ≡ B.content lines.old ++ text (codes "enter")
+        (signed_decimal x ∷ signed_decimal y ∷ decimal seq ∷ decimal mask ∷ []) }
+    ensures bound { length (B.content lines.new) ≤ length (B.content lines.old) + LONGEST_LINE }
     ensures capacity { B.capacity lines.old ≤ B.capacity lines.new }
 {
     lines.extend(b"enter");
@@ -60,8 +65,10 @@ fn put_enter<B: Buffer>(lines: &mut B, x: i16, y: i16, seq: u32, mask: u16)
 /// Words, and then two signed numbers.
 fn put_pair<B: Buffer>(lines: &mut B, words: &[u8], first: i16, second: i16)
     requires { length (B.content lines.old) + length words.now + 15 ≤ B.capacity lines.old }
-    ensures printed { B.content lines.new ≡ B.content lines.old ++ text words.now (signed_decimal first ∷ signed_decimal second ∷ []) }
-    ensures bound { length (B.content lines.new) ≤ length (B.content lines.old) + length words.now + 15 }
+    ensures printed { B.content lines.new ≡ B.content lines.old
+        ++ text words.now (signed_decimal first ∷ signed_decimal second ∷ []) }
+    ensures bound { length (B.content lines.new)
+        ≤ length (B.content lines.old) + length words.now + 15 }
     ensures capacity { B.capacity lines.old ≤ B.capacity lines.new }
 {
     lines.extend(words);
@@ -72,9 +79,12 @@ fn put_pair<B: Buffer>(lines: &mut B, words: &[u8], first: i16, second: i16)
 
 /// Words, and then numbers of two bytes.
 fn put_numbers<B: Buffer>(lines: &mut B, words: &[u8], numbers: &[u16])
-    requires { length (B.content lines.old) + (length words.now + 6 * length numbers.now + 1) ≤ B.capacity lines.old }
-    ensures printed { B.content lines.new ≡ B.content lines.old ++ text words.now (map decimal numbers.now) }
-    ensures bound { length (B.content lines.new) ≤ length (B.content lines.old) + (length words.now + 6 * length numbers.now + 1) }
+    requires { length (B.content lines.old) + (length words.now + 6 * length numbers.now + 1)
+        ≤ B.capacity lines.old }
+    ensures printed { B.content lines.new
+        ≡ B.content lines.old ++ text words.now (map decimal numbers.now) }
+    ensures bound { length (B.content lines.new)
+        ≤ length (B.content lines.old) + (length words.now + 6 * length numbers.now + 1) }
     ensures capacity { B.capacity lines.old ≤ B.capacity lines.new }
 {
     lines.extend(words);
@@ -86,7 +96,8 @@ fn put_numbers<B: Buffer>(lines: &mut B, words: &[u8], numbers: &[u16])
 
 fn put_option<B: Buffer>(lines: &mut B, code: u32, value: u32)
     requires { length (B.content lines.old) + 28 ≤ B.capacity lines.old }
-    ensures printed { B.content lines.new ≡ B.content lines.old ++ text (codes "option") (hex (to_be_bytes w32 code) ∷ decimal value ∷ []) }
+    ensures printed { B.content lines.new ≡ B.content lines.old
+        ++ text (codes "option") (hex (to_be_bytes w32 code) ∷ decimal value ∷ []) }
     ensures bound { length (B.content lines.new) ≤ length (B.content lines.old) + 28 }
     ensures capacity { B.capacity lines.old ≤ B.capacity lines.new }
 {
@@ -99,8 +110,10 @@ fn put_option<B: Buffer>(lines: &mut B, code: u32, value: u32)
 
 fn put_clip<B: Buffer>(lines: &mut B, clip: u8, bytes: &[u8])
     requires { length (B.content lines.old) + (2 * length bytes.now + 13) ≤ B.capacity lines.old }
-    ensures printed { B.content lines.new ≡ B.content lines.old ++ text (codes "clip") (decimal clip ∷ hex bytes.now ∷ []) }
-    ensures bound { length (B.content lines.new) ≤ length (B.content lines.old) + (2 * length bytes.now + 13) }
+    ensures printed { B.content lines.new
+        ≡ B.content lines.old ++ text (codes "clip") (decimal clip ∷ hex bytes.now ∷ []) }
+    ensures bound { length (B.content lines.new)
+        ≤ length (B.content lines.old) + (2 * length bytes.now + 13) }
     ensures capacity { B.capacity lines.old ≤ B.capacity lines.new }
 {
     lines.extend(b"clip");
@@ -122,7 +135,8 @@ fn put_field<B: Buffer>(lines: &mut B, number: u16)
 
 fn put_signed_field<B: Buffer>(lines: &mut B, number: i16)
     requires { length (B.content lines.old) + 7 ≤ B.capacity lines.old }
-    ensures printed { B.content lines.new ≡ B.content lines.old ++ after_blank (signed_decimal number) }
+    ensures printed { B.content lines.new
+        ≡ B.content lines.old ++ after_blank (signed_decimal number) }
     ensures bound { length (B.content lines.new) ≤ length (B.content lines.old) + 7 }
     ensures capacity { B.capacity lines.old ≤ B.capacity lines.new }
 {
@@ -134,7 +148,8 @@ fn put_signed_field<B: Buffer>(lines: &mut B, number: i16)
 fn put_hex<B: Buffer>(lines: &mut B, bytes: &[u8])
     requires { length (B.content lines.old) + (2 * length bytes.now + 1) ≤ B.capacity lines.old }
     ensures printed { B.content lines.new ≡ B.content lines.old ++ hex bytes.now }
-    ensures bound { length (B.content lines.new) ≤ length (B.content lines.old) + (2 * length bytes.now + 1) }
+    ensures bound { length (B.content lines.new)
+        ≤ length (B.content lines.old) + (2 * length bytes.now + 1) }
     ensures capacity { B.capacity lines.old ≤ B.capacity lines.new }
 {
     if bytes.is_empty() {
@@ -142,17 +157,6 @@ fn put_hex<B: Buffer>(lines: &mut B, bytes: &[u8])
         return;
     }
     for byte in bytes {
-        lines.extend(&[hex_digit(*byte / 16), hex_digit(*byte % 16)]);
-    }
-}
-
-fn hex_digit(number: u8) -> u8
-    requires { number < 16 }
-    ensures { result ≡ hex_digit number }
-{
-    if number < 10 {
-        b'0' + number
-    } else {
-        b'a' + (number - 10)
+        lines.extend(&hex_pair(*byte));
     }
 }

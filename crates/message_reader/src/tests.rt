@@ -127,7 +127,6 @@ fn rows() -> [Row<'static>; 16] {
 
 /// Feeds one piece and asks until no message is left.
 fn read_piece(
-    alloc: Global,
     reader: &mut MessageReader,
     piece: &[u8],
     shown: &mut Octets,
@@ -139,7 +138,7 @@ fn read_piece(
     loop {
         match reader.next()? {
             ReadStep::Message { place: _, msg } => {
-                show(alloc, &msg, shown)?;
+                show(&msg, shown)?;
                 shown.push(b'\n')?;
             }
             ReadStep::More => return Ok(None),
@@ -155,8 +154,8 @@ fn reads(rt: &impl Abort, alloc: Global, row: &Row, cut: usize) -> Result<(), Ou
 {
     let mut reader = MessageReader::new(alloc, row.role);
     let mut shown = Octets::new(alloc);
-    let _ = read_piece(alloc, &mut reader, &row.stream[..cut], &mut shown)?;
-    let bad = read_piece(alloc, &mut reader, &row.stream[cut..], &mut shown)?;
+    let _ = read_piece(&mut reader, &row.stream[..cut], &mut shown)?;
+    let bad = read_piece(&mut reader, &row.stream[cut..], &mut shown)?;
     let want = row.bad.map(|(place, reason)| BadFrame { place, reason });
     assert_eq!(rt; shown.as_slice(), row.shown, "{row:?} cut at {cut}");
     assert!(rt; bad == want, "{row:?} cut at {cut}");

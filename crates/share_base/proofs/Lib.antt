@@ -7,3 +7,5 @@ pub mod ListTests
 pub mod NameBytes
 pub mod SameNames
 pub mod SideWords
+pub mod SameSides
+pub mod Fronts

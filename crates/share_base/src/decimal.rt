@@ -1,4 +1,4 @@
-//! Numbers as they are printed: decimal, without leading zeros, with `-` before a negative one.
+//! Printing numbers: decimal, without leading zeros, with `-` before a negative one.
 
 ghost use Rattle.std.specs.Prelude.{◌≡◌, ◌+◌, ◌≤◌, ◌++◌, length};
 ghost use Rattle.std.specs.Fmt.{decimal, signed_decimal};
@@ -16,7 +16,7 @@ fn put_digits<B: Buffer>(out: &mut B, number: u64)
     out.extend(&digits[start..]);
 }
 
-/// Prints a number of eight bytes, in at most 20 digits, which have to fit.
+/// Appends a number of eight bytes, in at most 20 digits, which have to fit.
 pub fn put_u64<B: Buffer>(out: &mut B, number: u64)
     requires { length (B.content out.old) + 20 ≤ B.capacity out.old }
     ensures printed { B.content out.new ≡ B.content out.old ++ decimal number }
@@ -26,7 +26,7 @@ pub fn put_u64<B: Buffer>(out: &mut B, number: u64)
     put_digits(out, number);
 }
 
-/// Prints a number of four bytes, in at most 10 digits, which have to fit.
+/// Appends a number of four bytes, in at most 10 digits, which have to fit.
 pub fn put_u32<B: Buffer>(out: &mut B, number: u32)
     requires { length (B.content out.old) + 10 ≤ B.capacity out.old }
     ensures printed { B.content out.new ≡ B.content out.old ++ decimal number }
@@ -36,7 +36,7 @@ pub fn put_u32<B: Buffer>(out: &mut B, number: u32)
     put_digits(out, number as u64);
 }
 
-/// Prints a number of two bytes, in at most 5 digits, which have to fit.
+/// Appends a number of two bytes, in at most 5 digits, which have to fit.
 pub fn put_u16<B: Buffer>(out: &mut B, number: u16)
     requires { length (B.content out.old) + 5 ≤ B.capacity out.old }
     ensures printed { B.content out.new ≡ B.content out.old ++ decimal number }
@@ -46,7 +46,7 @@ pub fn put_u16<B: Buffer>(out: &mut B, number: u16)
     put_digits(out, number as u64);
 }
 
-/// Prints a signed number of two bytes, in at most 6 characters, which have to fit.
+/// Appends a signed number of two bytes, in at most 6 characters, which have to fit.
 pub fn put_i16<B: Buffer>(out: &mut B, number: i16)
     requires { length (B.content out.old) + 6 ≤ B.capacity out.old }
     ensures printed { B.content out.new ≡ B.content out.old ++ signed_decimal number }

@@ -5,3 +5,4 @@ pub mod Injection
 pub mod Runs
 pub mod OneEnd
 pub mod Checked
+pub mod Adapters

@@ -8,3 +8,4 @@ pub mod Checking
 pub mod Causes
 pub mod Statuses
 pub mod Words
+pub mod Adapters

@@ -5,7 +5,7 @@ ghost use Rattle.share_base.specs.Told.{after};
 ghost use Rattle.share_base.specs.Reading.{SourceState};
 ghost use Rattle.share_base.specs.Writing.{SinkState};
 ghost use Rattle.config_text.specs.declared.faults.ConfigRefusal.{ConfigRefusal};
-ghost use Rattle.config_text.specs.Configurations.{Configuration};
+ghost use Rattle.screen_config.specs.Configurations.{Configuration};
 ghost use Rattle.config_text.specs.Accepting.{Accepts, Refuses};
 ghost use Rattle.config_text.specs.Normal.{normal};
 ghost use Rattle.synergy_share.specs.declared.status.Status.{Status};

@@ -1,8 +1,7 @@
-//! The program: the top call, its commands, and the real objects that they are run on.
+//! The program: the top call, its commands, and the adapters of the system's streams and files.
 //!
-//! It owns the words that name a command, the statuses that a command ends with, and the statement
-//! of what a command does with the bytes that it reads (`specs/`). What happens to bytes below that,
-//! the crates below know.
+//! The crate owns the words that name a command, the statuses that a command ends with, and the statement of
+//! what a command does with the bytes that it reads (`specs/`). What the bytes mean, the crates below know.
 #![tactic(auto)]
 
 #[cfg(test)]
@@ -14,6 +13,8 @@ mod inject_core;
 mod laws;
 mod line_core;
 mod real;
+#[cfg(test)]
+mod real_tests;
 mod show_core;
 mod status;
 #[cfg(test)]
@@ -33,7 +34,7 @@ use std::io::{ErrorKind, Write};
 use std::process::ExitCode;
 pub use top::run;
 
-/// The words after the program's name. A word that is not UTF-8 is no word of a command.
+/// Returns the words after the program's name, or `Usage` if one of them is not UTF-8.
 fn words_of(rt: &HostRuntime) -> Result<Vec<String>, Status> {
     let all = match env::args(rt) {
         Ok(all) => all,
@@ -55,7 +56,7 @@ fn main(rt: HostRuntime) -> ExitCode {
         Ok(words) => run(rt.alloc(), &words, &mut files, &mut input, &mut out),
         Err(status) => status,
     };
-    // Where even standard error fails, the exit code is left to tell.
+    // If standard error fails too, the exit code still tells how the program ended.
     let _ = rt.stderr().write_all(status.report().as_slice());
     ExitCode::from(status.code())
 }

@@ -14,7 +14,6 @@ use std::alloc::Global;
 /// Shows a line for each message of an end's stream.
 #[derive(Drop)]
 pub struct ShowCore {
-    alloc: Global,
     from: End,
     reader: MessageReader,
     lines: Octets,
@@ -22,12 +21,12 @@ pub struct ShowCore {
 }
 
 // Adds the line of one message.
-fn put_shown(alloc: Global, msg: Msg, lines: &mut Octets) -> Result<(), OutOfMemory>
+fn put_shown(msg: Msg, lines: &mut Octets) -> Result<(), OutOfMemory>
     ensures ok { OnOk result (lines.new ≡ lines.old ++ shown msg) }
     ensures err { OnErr result (lines.new ≡ lines.old) }
 {
     let start = lines.len();
-    show(alloc, &msg, lines)?;
+    show(&msg, lines)?;
     if let Err(error) = lines.push(b'\n') {
         lines.truncate(start);
         return Err(error);
@@ -37,7 +36,6 @@ fn put_shown(alloc: Global, msg: Msg, lines: &mut Octets) -> Result<(), OutOfMem
 
 // Adds the lines of the next piece's messages, and returns the bad frame that ends them.
 fn show_piece(
-    alloc: Global,
     reader: &mut MessageReader,
     lines: &mut Octets,
     piece: &[u8],
@@ -50,7 +48,7 @@ fn show_piece(
         match reader.next()? {
             ReadStep::More => return Ok(None),
             ReadStep::Bad(bad) => return Ok(Some(bad)),
-            ReadStep::Message { place: _, msg } => put_shown(alloc, msg, lines)?,
+            ReadStep::Message { place: _, msg } => put_shown(msg, lines)?,
         }
     }
 }
@@ -78,7 +76,6 @@ impl ShowCore {
         ensures from { result.from ≡ from }
     {
         ShowCore {
-            alloc,
             from,
             reader: MessageReader::new(alloc, Role::Observer(from)),
             lines: Octets::new(alloc),
@@ -104,7 +101,7 @@ impl LineCore for ShowCore {
     ghost keeps = { shown_keeps };
 
     fn feed(&mut self, piece: &[u8]) {
-        let answer = show_piece(self.alloc, &mut self.reader, &mut self.lines, piece);
+        let answer = show_piece(&mut self.reader, &mut self.lines, piece);
         self.done = status_after(answer);
     }
 

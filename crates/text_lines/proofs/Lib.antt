@@ -3,6 +3,7 @@ pub mod Cuts
 pub mod DecimalsSpelled
 pub mod FirstPlaces
 pub mod LineParts
+pub mod LineRuns
 pub mod MaybeSigns
 pub mod NoNumbers
 pub mod NumbersAgain

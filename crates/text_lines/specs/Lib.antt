@@ -1,5 +1,6 @@
 pub mod Bytes
 pub mod Fits
+pub mod LineByLine
 pub mod Lines
 pub mod Numbers
 pub mod Reading

@@ -18,7 +18,7 @@ mod tests;
 mod word_reading;
 
 pub use bytes::{WordKind, unblanked, word_len};
-pub use decimal_text::decimal;
+pub use decimal_text::{decimal, decimal_u64};
 pub use laws::{lines_are_spelled, numbers_are_spelled};
 pub use lines::{TextLine, cut_line, text_line};
 pub use word_reading::{Word, begins, end, literal, maybe_sign, number, run, sign, whole_word};

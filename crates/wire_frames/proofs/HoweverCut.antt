@@ -1,11 +1,11 @@
 -- However a stream is cut, a framer stops at the same place.
-use Rattle.std.proofs.Common.{◌≡◌, ℕ, ◌+◌, ◌^◌, ◌<◌, ◌≤◌, Bool, true, false, cond, List, [], ◌∷◌, ◌++◌, length, take, refl, sym, ap, subst, ◌∙◌, append_assoc, arith, inl, inr}
+use Rattle.std.proofs.Common.{◌≡◌, ℕ, ◌^◌, ◌<◌, ◌≤◌, Bool, true, false, cond, List, [], ◌∷◌, ◌++◌, length, refl, sym, ap, subst, ◌∙◌, append_assoc, arith, inl, inr}
 use Rattle.std.proofs.lemmas.List.{length-append, append-nil, take-append-le}
 use Rattle.std.specs.Int.{w32, from_be_bytes}
 use Rattle.wire_frames.specs.Framing.{frame, frames, length_field, IsPartial, IsTooLong}
 use Rattle.wire_frames.specs.Framers.{FramerParts}
-use Rattle.wire_frames.specs.Calls.{Call, Fed, Gave, Waited, Refused, Raised, is_refused, stream_fed, pieces_fed, bodies_given, next_place, limit_after, AreRight}
-use Rattle.wire_frames.specs.Cuts.{IsStop, StoppedAt, StoppedAlike}
+use Rattle.wire_frames.specs.Calls.{Call, Fed, Gave, Waited, Refused, Raised, is_refused, stream_fed, pieces_fed, bodies_given, next_place, limit_after}
+use Rattle.wire_frames.specs.Cuts.{StoppedAt, StoppedAlike}
 use Rattle.wire_frames.proofs.OneFrame.{one_frame, frame_is_whole, frame_fits}
 use Rattle.wire_frames.proofs.OneFraming.{Within, frames-cons}
 use Rattle.wire_frames.proofs.Histories.{given_within, left_is}

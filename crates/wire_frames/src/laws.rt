@@ -1,17 +1,11 @@
 //! Laws of framing on which other crates rest. The calls do nothing: their contracts are the laws.
 
-ghost use Rattle.std.specs.Prelude.{◌≡◌, ◌^◌, ◌<◌, ◌++◌, List, ℕ, length};
-ghost use Rattle.wire_frames.specs.Framing.{frame, Framed};
+ghost use Rattle.std.specs.Prelude.{◌≡◌, ◌^◌, ◌<◌, List, ℕ};
+ghost use Rattle.wire_frames.specs.Framing.{Framed};
 ghost use Rattle.wire_frames.specs.Framers.{FramerParts};
 ghost use Rattle.wire_frames.specs.Calls.{Call, pieces_fed, bodies_given, StandsFor};
 ghost use Rattle.wire_frames.specs.Cuts.{StoppedAt, StoppedAlike};
 ghost use Rattle.wire_frames.specs.Holding.{IsPaced, HoldsLittle};
-
-/// No frame begins another: two streams that begin with frames and are equal have the same first
-/// body and the same rest.
-pub fn one_frame()
-    ensures { (a b x y : List ℕ) → length a < 2 ^ 32 → length b < 2 ^ 32 → frame a ++ x ≡ frame b ++ y → (a ≡ b) × (x ≡ y) }
-{}
 
 /// A stream is framed in one way.
 pub fn one_framing()

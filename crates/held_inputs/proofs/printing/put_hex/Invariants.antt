@@ -1,6 +1,6 @@
 use Rattle.std.proofs.Common.{◌≡◌, ◌≤◌, ◌+◌, ◌*◌, ◌++◌, length, take}
 use Rattle.std.specs.List.{flat_map}
-use Rattle.message_codec.specs.Showing.{hex_pair}
+use Rattle.share_base.specs.Hex.{hex_pair}
 use Rattle.held_inputs.proofs.printing.put_hex.Given as goal
 
 abbrev pub invariant-loop-byte : goal.invariant-loop-byte

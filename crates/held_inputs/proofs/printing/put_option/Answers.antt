@@ -3,7 +3,7 @@ use Rattle.std.specs.Prelude.{codes}
 use Rattle.std.specs.Int.{w32, to_be_bytes}
 use Rattle.std.specs.Fmt.{decimal}
 use Rattle.held_inputs.specs.Line.{text}
-use Rattle.message_codec.specs.Showing.{hex}
+use Rattle.share_base.specs.Hex.{hex}
 use Rattle.held_inputs.proofs.printing.put_option.Goals as goal
 
 -- five parts, one after another

@@ -1,0 +1,7 @@
+pub mod Causes
+pub mod Phases
+pub mod Handshake
+pub mod TypedPhases
+pub mod Answers
+pub mod Information
+pub mod Loans

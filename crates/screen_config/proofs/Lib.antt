@@ -1,0 +1,10 @@
+pub mod AddedHotkeys
+pub mod Bounds
+pub mod KeyNumbers
+pub mod KeyPlaces
+pub mod Keyed
+pub mod LinkValues
+pub mod NamesApart
+pub mod SoundHotkeys
+pub mod SoundStarts
+pub mod SoundSteps

@@ -1,0 +1,10 @@
+use Rattle.script_screen.proofs.Readings.{is_trace_reading, found_of, only_of, refused_of, refuses_of}
+use Rattle.script_screen.proofs.trace_reading.read_trace.Goals as goal
+
+pub returns : goal.returns
+returns c = record {
+  found = found_of (is_trace_reading c.args.text.now) c.read.result c.read.ensures;
+  only = only_of (is_trace_reading c.args.text.now) c.read.result c.read.ensures;
+  refused = refused_of (is_trace_reading c.args.text.now) c.read.result c.read.ensures;
+  refuses = refuses_of (is_trace_reading c.args.text.now) c.read.result c.read.ensures;
+}

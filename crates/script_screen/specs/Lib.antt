@@ -1,0 +1,15 @@
+pub mod Answers
+pub mod ClientScripts
+pub mod Forms
+pub mod Grammar
+pub mod Hex
+pub mod Holding
+pub mod Kinds
+pub mod NumberedLines
+pub mod Screens
+pub mod Scripts
+pub mod Seen
+pub mod Texts
+pub mod Traces
+pub mod Tracking
+pub mod Verdicts
