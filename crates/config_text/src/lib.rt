@@ -32,7 +32,7 @@ mod words;
 pub use faults::{ConfigFault, ConfigKind, ConfigRefusal};
 pub use laws::{
     aliases_are_spelled, faults_stand_in_order, headers_are_spelled, hotkeys_mean_what_they_spell,
-    lines_stop_at_one_place, lines_stop_where_they_cannot_go_on, links_are_spelled,
+    lines_stop_where_they_cannot_go_on, links_are_spelled,
     links_stop_where_they_cannot_go_on, refused_for_the_first_fault, sections_are_spelled,
     settings_are_spelled,
 };

@@ -17,6 +17,6 @@ mod walk;
 
 pub use laws::{one_landing, pixel_again};
 pub use link::{Landing, Link};
-pub use links::{LinkFault, Links};
+pub use links::{LinkFault, Links, MOST_LINKS};
 pub use places::{pixel, place};
-pub use range::Range;
+pub use range::{Range, SIDE_END};
