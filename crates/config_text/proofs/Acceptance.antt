@@ -5,7 +5,7 @@ use Rattle.text_lines.specs.Reading.{◌>>=◌}
 use Rattle.config_text.specs.declared.faults.ConfigKind.TheVariants as kind
 use Rattle.config_text.specs.declared.faults.ConfigRefusal.{ConfigRefusal}
 use Rattle.config_text.specs.declared.sections.Opened.{Opened}
-use Rattle.config_text.specs.Configurations.{Configuration}
+use Rattle.screen_config.specs.Configurations.{Configuration}
 use Rattle.config_text.specs.Drafts.{Draft}
 use Rattle.config_text.specs.Lines.{judged, start, read_lines, reading, closed, refused}
 use Rattle.config_text.specs.Accepting.{Leads, Accepts, Offends, LeavesOpen, Refuses}

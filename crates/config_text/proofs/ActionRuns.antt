@@ -13,21 +13,21 @@ use Rattle.hotkey_text.specs.declared.faults.HotkeyFault.{HotkeyFault}
 use Rattle.hotkey_text.specs.declared.names.Deed.TheVariants as deed
 use Rattle.hotkey_text.specs.Shapes.{ActionForm, HotkeyForm}
 use Rattle.hotkey_text.specs.Arguments as words
-use Rattle.hotkey_text.specs.Spelled.{is_trigger}
+use Rattle.hotkey_rules.specs.WellFormed.{is_trigger}
 use Rattle.hotkey_text.proofs.SpelledWords.{are_words, trigger_spelled, words_spelled}
 use Rattle.hotkey_text.proofs.WordSteps.{went}
 use Rattle.config_text.specs.declared.faults.Fault.{Fault}
 use Rattle.config_text.specs.declared.faults.ConfigKind.TheVariants as kind
 use Rattle.config_text.specs.declared.faults.LineFault.{LineFault}
 use Rattle.config_text.specs.declared.faults.LineFault.TheVariants as line_fault
-use Rattle.config_text.specs.declared.screens.Screen.{Screen}
+use Rattle.screen_config.specs.declared.screens.Screen.{Screen}
 use Rattle.config_text.specs.Answering.{Judges}
-use Rattle.config_text.specs.Configurations.{Configuration, screen_of, screen_place, alias_place, or_else}
+use Rattle.screen_config.specs.Configurations.{Configuration, screen_of, screen_place, alias_place, or_else}
 use Rattle.config_text.specs.Judging.{or_fault}
 use Rattle.config_text.specs.Hotkeys.{judged_words, nothing_further, screen_named, meant, action_of, actions_of}
-use Rattle.config_text.specs.SoundHotkeys.{is_action_among}
-use Rattle.config_text.specs.Sound.{IsSound}
-use Rattle.config_text.proofs.Bounds.{alias_known}
+use Rattle.screen_config.specs.SoundHotkeys.{is_action_among}
+use Rattle.screen_config.specs.Sound.{IsSound}
+use Rattle.screen_config.proofs.Bounds.{alias_known}
 
 -- ---- one by one
 

@@ -7,7 +7,7 @@ use Rattle.std.proofs.lemmas.Result.{on_ok_weaker}
 use Rattle.hotkey_rules.specs.declared.action.Action.{Action}
 use Rattle.hotkey_text.specs.Printed.{and_further, with_commas}
 use Rattle.hotkey_text.specs.Shapes.{has_some}
-use Rattle.config_text.specs.Configurations.{Configuration}
+use Rattle.screen_config.specs.Configurations.{Configuration}
 use Rattle.config_text.specs.Normal.{action_of, further_action}
 
 pub further_texts : (c : Configuration) (actions : List Action) → and_further (map (action_of c) actions) ≡ flat_map (further_action c) actions

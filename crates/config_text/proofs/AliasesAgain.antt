@@ -14,18 +14,18 @@ use Rattle.share_base.proofs.ListTests.{all_append, all_parts, all_at}
 use Rattle.text_lines.proofs.SpelledWords.{text_of}
 use Rattle.option_table.specs.Settings.{none_set}
 use Rattle.config_text.specs.declared.faults.Fault.{Fault}
-use Rattle.config_text.specs.declared.screens.Alias.{Alias}
+use Rattle.screen_config.specs.declared.screens.Alias.{Alias}
 use Rattle.config_text.specs.declared.sections.Section.TheVariants as section
-use Rattle.config_text.specs.Configurations.{Configuration}
+use Rattle.screen_config.specs.Configurations.{Configuration}
 use Rattle.config_text.specs.Drafts.{Draft}
 use Rattle.config_text.specs.Judging.{new_alias}
 use Rattle.config_text.specs.Normal.{alias_text, aliases_of, aliases_text, two_tabs}
 use Rattle.config_text.specs.Sections.{is_header, in_section, alias_line}
-use Rattle.config_text.specs.Sound.{IsSound, all_names, apart, is_end}
-use Rattle.config_text.specs.Values.{names_screen, aliases_in, numbers_of}
+use Rattle.screen_config.specs.Sound.{IsSound, all_names, apart, is_end}
+use Rattle.screen_config.specs.Values.{names_screen, aliases_in, numbers_of}
 use Rattle.config_text.proofs.KnownAgain.{names_of, sound_names, aliases_headers, block_again}
 use Rattle.config_text.proofs.NamesAgain.{name_passes, name_takes}
-use Rattle.config_text.proofs.NamesApart.{are_others, others_before, others_behind, unknown_if_others}
+use Rattle.screen_config.proofs.NamesApart.{are_others, others_before, others_behind, unknown_if_others}
 use Rattle.config_text.proofs.NamesClean.{clean_name}
 use Rattle.config_text.proofs.Spelled.{alias_again}
 use Rattle.config_text.proofs.Runs.{draft_in, ReadsText, ReadsTextBelow, no_text, no_text_below, text_both, text_below_both, line_below}

@@ -10,7 +10,7 @@ use Rattle.option_table.specs.Values.{value_of}
 use Rattle.config_text.specs.declared.faults.ConfigKind.{ConfigKind}
 use Rattle.config_text.specs.declared.faults.ConfigKind.TheVariants as kind
 use Rattle.config_text.specs.declared.faults.Fault.{Fault}
-use Rattle.config_text.specs.Configurations.{Configuration, screen_of}
+use Rattle.screen_config.specs.Configurations.{Configuration, screen_of}
 use Rattle.config_text.specs.Shapes.{RangeText, LinkText, SettingText}
 use Rattle.config_text.specs.Judging.{fault_at}
 use Rattle.config_text.specs.Spelling.{SpellsSetting}

@@ -12,10 +12,10 @@ use Rattle.config_text.specs.declared.faults.ConfigKind.{ConfigKind}
 use Rattle.config_text.specs.declared.faults.ConfigKind.TheVariants as kind
 use Rattle.config_text.specs.declared.faults.Fault.{Fault}
 use Rattle.config_text.specs.declared.words.Setting.{Setting}
-use Rattle.config_text.specs.Configurations.{Configuration, screen_of}
+use Rattle.screen_config.specs.Configurations.{Configuration, screen_of}
 use Rattle.config_text.specs.Shapes.{RangeText, LinkText, SettingText}
 use Rattle.config_text.specs.Judging.{unless, or_fault, range_of, overlaps, known_screen, new_screen, new_alias, good_range, new_link, one_link_more, new_setting}
-use Rattle.config_text.specs.Sound.{most_screens, most_aliases}
+use Rattle.screen_config.specs.Sound.{most_screens, most_aliases}
 use Rattle.config_text.specs.FaultLists.{fault_unless, range_given, range_faults, known_faults, screen_faults, alias_faults, link_faults, option_faults, setting_faults, first, refusal_of}
 
 step : {A : Type 0} (b : Bool) (k : ConfigKind) (left : ℕ) (f : Unit {0} → Result A Fault) (fs : List Fault) → refusal_of (f tt) ≡ first fs → refusal_of (unless b k left >>= f) ≡ first (fault_unless b k left ++ fs)

@@ -14,9 +14,10 @@ use Rattle.hotkey_text.specs.FaultLists as all
 use Rattle.hotkey_text.proofs.FirstFaults.{first_of_trigger, first_of_action}
 use Rattle.config_text.specs.declared.faults.ConfigKind.TheVariants as kind
 use Rattle.config_text.specs.declared.faults.Fault.{Fault}
-use Rattle.config_text.specs.Configurations.{Configuration, screen_of, with_hotkey}
+use Rattle.screen_config.specs.Configurations.{Configuration, screen_of, with_hotkey}
 use Rattle.config_text.specs.Judging.{or_fault, unless}
-use Rattle.config_text.specs.Hotkeys.{judged_words, nothing_further, screen_named, meant, action_of, actions_of, has_room, next_rule, new_hotkey}
+use Rattle.config_text.specs.Hotkeys.{judged_words, nothing_further, screen_named, meant, action_of, actions_of, new_hotkey}
+use Rattle.screen_config.specs.AddingHotkeys.{has_room, next_rule}
 use Rattle.config_text.specs.FaultLists.{fault_unless, first, refusal_of}
 use Rattle.config_text.specs.HotkeyFaults.{line_fault, limit_faults, hotkey_faults}
 

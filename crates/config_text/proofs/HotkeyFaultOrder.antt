@@ -11,8 +11,9 @@ use Rattle.hotkey_text.specs.FaultLists.{line_faults, StandBehind, StandFromTheL
 use Rattle.hotkey_text.proofs.FaultsFromTheLeft.{line_from_left}
 use Rattle.config_text.specs.declared.faults.ConfigKind.TheVariants as kind
 use Rattle.config_text.specs.declared.faults.Fault.{Fault}
-use Rattle.config_text.specs.Configurations.{Configuration, screen_of}
-use Rattle.config_text.specs.Hotkeys.{kind_of, actions_of, has_room}
+use Rattle.screen_config.specs.Configurations.{Configuration, screen_of}
+use Rattle.config_text.specs.Hotkeys.{kind_of, actions_of}
+use Rattle.screen_config.specs.AddingHotkeys.{has_room}
 use Rattle.config_text.specs.FaultLists.{fault_unless, class_of, ComesBeforeAll, AreInOrder}
 use Rattle.config_text.specs.HotkeyFaults.{line_fault, limit_faults, hotkey_faults}
 

@@ -9,13 +9,13 @@ use Rattle.hotkey_rules.specs.declared.action.Action.TheVariants as action
 use Rattle.hotkey_rules.specs.declared.rule.Rule.{Rule}
 use Rattle.hotkey_text.specs.Printed.{trigger_text, between, and_further, with_commas, hotkey_text}
 use Rattle.hotkey_text.specs.Shapes.{has_some}
-use Rattle.hotkey_text.specs.Spelled.{is_trigger, is_action}
+use Rattle.hotkey_rules.specs.WellFormed.{is_trigger, is_action}
 use Rattle.hotkey_text.proofs.ActionLengths.{trigger_short, action_short}
-use Rattle.config_text.specs.ActionKeys.{actions_in}
-use Rattle.config_text.specs.Configurations.{Configuration}
+use Rattle.screen_config.specs.ActionKeys.{actions_in}
+use Rattle.screen_config.specs.Configurations.{Configuration}
 use Rattle.config_text.specs.Normal.{one_tab, screen_in, action_of, further_action, hotkey_of}
-use Rattle.config_text.specs.Sound.{IsSound}
-use Rattle.config_text.specs.SoundHotkeys.{action_below, is_action_among}
+use Rattle.screen_config.specs.Sound.{IsSound}
+use Rattle.screen_config.specs.SoundHotkeys.{action_below, is_action_among}
 use Rattle.config_text.proofs.ActionTexts.{further_texts}
 use Rattle.config_text.proofs.FlatMapLengths.{all_short}
 use Rattle.config_text.proofs.NameLengths.{name_short}

@@ -11,9 +11,10 @@ use Rattle.hotkey_text.proofs.WordSteps.{went}
 use Rattle.config_text.proofs.ActionRuns.{words_judged}
 use Rattle.config_text.specs.declared.faults.ConfigKind.{ConfigKind}
 use Rattle.config_text.specs.declared.faults.ConfigKind.TheVariants as kind
-use Rattle.config_text.specs.Configurations.{Configuration, screen_of}
+use Rattle.screen_config.specs.Configurations.{Configuration, screen_of}
 use Rattle.config_text.specs.Judging.{or_fault, unless}
-use Rattle.config_text.specs.Hotkeys.{judged_words, nothing_further, screen_named, meant, action_of, actions_of, has_room, new_hotkey}
+use Rattle.config_text.specs.Hotkeys.{judged_words, nothing_further, screen_named, meant, action_of, actions_of, new_hotkey}
+use Rattle.screen_config.specs.AddingHotkeys.{has_room}
 use Rattle.config_text.specs.HotkeyMeanings.{MeansWords, MeansAction, MeansHotkey}
 
 -- ---- steps that went well

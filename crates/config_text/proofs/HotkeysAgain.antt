@@ -10,22 +10,22 @@ use Rattle.hotkey_rules.specs.declared.rule.Rule.{Rule}
 use Rattle.hotkey_text.specs.Again.{is_argument_byte, is_screen_word, has_screen_word, is_spelled, words_of, HasWordsOf, HaveWordsOf, texts_of}
 use Rattle.hotkey_text.specs.Printed.{trigger_text, hotkey_text}
 use Rattle.hotkey_text.specs.Shapes.{ActionForm}
-use Rattle.hotkey_text.specs.Spelled.{is_trigger, is_action}
+use Rattle.hotkey_rules.specs.WellFormed.{is_trigger, is_action}
 use Rattle.hotkey_text.proofs.LineBytes.{line_clean, line_equals}
 use Rattle.hotkey_text.proofs.LinesAgain.{line_again}
 use Rattle.screen_links.specs.declared.link.Link.{Link}
 use Rattle.option_table.specs.Printed.{option_lines}
 use Rattle.option_table.specs.Settings.{Values, none_set}
-use Rattle.config_text.specs.declared.screens.Alias.{Alias}
+use Rattle.screen_config.specs.declared.screens.Alias.{Alias}
 use Rattle.config_text.specs.declared.sections.Section.TheVariants as section
-use Rattle.config_text.specs.ActionKeys.{actions_in}
-use Rattle.config_text.specs.Configurations.{Configuration, screen_of}
+use Rattle.screen_config.specs.ActionKeys.{actions_in}
+use Rattle.screen_config.specs.Configurations.{Configuration, screen_of}
 use Rattle.config_text.specs.Hotkeys.{screen_named, meant, action_of, actions_of, new_hotkey}
 use Rattle.config_text.specs.Normal.{one_tab, screen_in, action_of as action_printed, hotkey_of, hotkeys_text, options_text}
 use Rattle.config_text.specs.Sections.{in_section, hotkey_line}
-use Rattle.config_text.specs.SoundHotkeys.{action_below, is_action_among, AreHotkeys}
-use Rattle.config_text.specs.Sound.{IsSound}
-use Rattle.config_text.specs.Values.{name_of}
+use Rattle.screen_config.specs.SoundHotkeys.{action_below, is_action_among, AreHotkeys}
+use Rattle.screen_config.specs.Sound.{IsSound}
+use Rattle.screen_config.specs.Values.{name_of}
 use Rattle.config_text.proofs.CleanLines.{equals_no_end, equals_no_header}
 use Rattle.config_text.proofs.KeysAgain.{bare, actions_are, room_again, rule_again}
 use Rattle.config_text.proofs.KnownAgain.{AreNamed, is_name_again, place_again, sound_names}

@@ -10,10 +10,11 @@ use Rattle.hotkey_rules.specs.declared.action.Action.{Action}
 use Rattle.hotkey_rules.specs.declared.action.Action.TheVariants as action
 use Rattle.hotkey_rules.specs.declared.rule.Rule.{Rule}
 use Rattle.hotkey_rules.specs.Rules.{rule_of, most}
-use Rattle.config_text.specs.ActionKeys.{most_actions, most_action_keys, has_key, with_keys, key_in, keys_in, actions_in, action_keys, with_button}
-use Rattle.config_text.specs.Hotkeys.{no_button, keys_with, has_room, next_rule}
-use Rattle.config_text.specs.SoundHotkeys.{HasItsButton, AreHotkeys}
-use Rattle.config_text.proofs.KeyPlaces.{with_keys_append, longer, all_there, same_button, keys_in_append}
+use Rattle.screen_config.specs.ActionKeys.{most_actions, most_action_keys, has_key, with_keys, key_in, keys_in, actions_in, action_keys, with_button}
+use Rattle.config_text.specs.Hotkeys.{no_button}
+use Rattle.screen_config.specs.AddingHotkeys.{keys_with, has_room, next_rule}
+use Rattle.screen_config.specs.SoundHotkeys.{HasItsButton, AreHotkeys}
+use Rattle.screen_config.proofs.KeyPlaces.{with_keys_append, longer, all_there, same_button, keys_in_append}
 
 -- ---- an action without its button
 

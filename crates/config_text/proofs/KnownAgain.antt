@@ -8,19 +8,19 @@ use Rattle.share_base.proofs.ListTests.{all_parts, any_none, none_of_any}
 use Rattle.share_base.proofs.SameNames.{same_name_refl}
 use Rattle.text_lines.specs.Reading.{is_empty}
 use Rattle.text_lines.proofs.SpelledWords.{text_of}
-use Rattle.config_text.specs.declared.screens.Alias.{Alias}
-use Rattle.config_text.specs.declared.screens.Screen.{Screen}
+use Rattle.screen_config.specs.declared.screens.Alias.{Alias}
+use Rattle.screen_config.specs.declared.screens.Screen.{Screen}
 use Rattle.config_text.specs.declared.sections.Opened.{Opened}
 use Rattle.config_text.specs.declared.sections.Section.{Section}
 use Rattle.config_text.specs.declared.sections.Section.TheVariants as section
-use Rattle.config_text.specs.Configurations.{Configuration, screen_of, screen_place}
+use Rattle.screen_config.specs.Configurations.{Configuration, screen_of, screen_place}
 use Rattle.config_text.specs.Drafts.{Draft}
 use Rattle.config_text.specs.Judging.{known_screen}
 use Rattle.config_text.specs.Lines.{read_lines}
 use Rattle.config_text.specs.Normal.{header_text, block_text}
 use Rattle.config_text.specs.Sections.{is_header, in_section, known_header, opened_as}
-use Rattle.config_text.specs.Sound.{IsSound, apart}
-use Rattle.config_text.specs.Values.{name_in, name_of}
+use Rattle.screen_config.specs.Sound.{IsSound, apart}
+use Rattle.screen_config.specs.Values.{name_in, name_of}
 use Rattle.config_text.proofs.NamesAgain.{header_again, is_header_again}
 use Rattle.config_text.proofs.NamesClean.{clean_header}
 use Rattle.config_text.proofs.Runs.{draft_in, ended, ReadsText, ReadsTextBelow, no_text, block_of_text}

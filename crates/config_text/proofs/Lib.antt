@@ -1,10 +1,8 @@
 pub mod Acceptance
 pub mod ActionRuns
 pub mod ActionTexts
-pub mod AddedHotkeys
 pub mod AliasesAgain
 pub mod BegunLinks
-pub mod Bounds
 pub mod CleanLines
 pub mod FaultOrder
 pub mod FirstFaults
@@ -14,7 +12,6 @@ pub mod HotkeyFaultOrder
 pub mod HotkeyLengths
 pub mod HotkeyMeanings
 pub mod HotkeysAgain
-pub mod KeyPlaces
 pub mod KeysAgain
 pub mod KnownAgain
 pub mod LineNumbers
@@ -22,7 +19,6 @@ pub mod LineRuns
 pub mod LinksAgain
 pub mod NameLengths
 pub mod NamesAgain
-pub mod NamesApart
 pub mod NamesClean
 pub mod NewLinks
 pub mod NormalByValue
@@ -37,9 +33,6 @@ pub mod RisingLinks
 pub mod Runs
 pub mod ScreensAgain
 pub mod SectionsAgain
-pub mod SoundHotkeys
-pub mod SoundStarts
-pub mod SoundSteps
 pub mod Spelled
 pub mod SpelledLinks
 pub mod SpelledRanges
@@ -50,4 +43,3 @@ pub mod StopsSections
 pub mod StopsTargets
 pub mod TextAgain
 pub mod ValuesAgain
-pub mod WholeValue

@@ -14,7 +14,7 @@ use Rattle.config_text.specs.declared.sections.Section.TheVariants as section
 use Rattle.config_text.specs.declared.sections.Opened.{Opened}
 use Rattle.config_text.specs.Drafts.{Draft}
 use Rattle.config_text.specs.declared.faults.ConfigKind.TheVariants as kind
-use Rattle.config_text.specs.Configurations.{with_global, with_own}
+use Rattle.screen_config.specs.Configurations.{with_global, with_own}
 use Rattle.config_text.specs.Shapes.{section_at, header_at, alias_at, link_at, setting_at}
 use Rattle.config_text.specs.Judging.{fault_at, or_fault, formed, known_screen, new_screen, new_alias, new_link, new_setting}
 use Rattle.config_text.specs.Hotkeys.{new_hotkey}

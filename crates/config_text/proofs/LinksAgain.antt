@@ -13,14 +13,14 @@ use Rattle.screen_links.specs.declared.link.Link.{Link}
 use Rattle.screen_links.specs.Adding.{HasGoodRanges}
 use Rattle.option_table.specs.Settings.{none_set}
 use Rattle.config_text.specs.declared.sections.Section.TheVariants as section
-use Rattle.config_text.specs.declared.screens.Alias.{Alias}
-use Rattle.config_text.specs.Configurations.{Configuration}
+use Rattle.screen_config.specs.declared.screens.Alias.{Alias}
+use Rattle.screen_config.specs.Configurations.{Configuration}
 use Rattle.config_text.specs.Judging.{overlaps}
 use Rattle.config_text.specs.Normal.{two_tabs, block_text, link_text, maybe_link, link_at, side_links, links_of, links_text}
 use Rattle.config_text.specs.Sections.{in_section, link_line}
 use Rattle.share_base.specs.Sides.{sides}
-use Rattle.config_text.specs.Sound.{IsSound, link_below}
-use Rattle.config_text.specs.Values.{name_of, numbers_of, hundredths, link_beginning, links_on, links_in}
+use Rattle.screen_config.specs.Sound.{IsSound, link_below}
+use Rattle.screen_config.specs.Values.{name_of, numbers_of, hundredths, link_beginning, links_on, links_in}
 use Rattle.config_text.proofs.CleanLines.{equals_no_end, equals_no_header}
 use Rattle.config_text.proofs.KnownAgain.{sound_names, is_name_again, known_again, links_headers, block_again}
 use Rattle.config_text.proofs.NewLinks.{link_taken}

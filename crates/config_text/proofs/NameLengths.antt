@@ -4,10 +4,10 @@ use Rattle.std.specs.List.{list_all, slice_split}
 use Rattle.std.proofs.lemmas.Bool.{and_parts, cases_lt, leb-true}
 use Rattle.std.proofs.lemmas.Option.{slice_get_past}
 use Rattle.share_base.specs.Names.{is_name, is_part, undotted}
-use Rattle.config_text.specs.declared.screens.Screen.{Screen}
-use Rattle.config_text.specs.Configurations.{Configuration}
-use Rattle.config_text.specs.Sound.{IsSound}
-use Rattle.config_text.specs.Values.{name_in, name_of}
+use Rattle.screen_config.specs.declared.screens.Screen.{Screen}
+use Rattle.screen_config.specs.Configurations.{Configuration}
+use Rattle.screen_config.specs.Sound.{IsSound}
+use Rattle.screen_config.specs.Values.{name_in, name_of}
 use Rattle.config_text.proofs.KnownAgain.{sound_names, is_name_again}
 
 pub is_name_short : (name : List ℕ) → is_name name ≡ true → length name ≤ 255

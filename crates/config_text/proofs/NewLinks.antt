@@ -8,7 +8,7 @@ use Rattle.screen_links.specs.Adding.{IsBlocked, IsFree}
 use Rattle.config_text.proofs.Overlapping.{any_overlaps, none_overlaps}
 use Rattle.config_text.specs.declared.faults.ConfigKind.TheVariants as kind
 use Rattle.config_text.specs.declared.faults.Fault.{Fault}
-use Rattle.config_text.specs.Configurations.{Configuration, with_link}
+use Rattle.screen_config.specs.Configurations.{Configuration, with_link}
 use Rattle.config_text.specs.Shapes.{LinkText}
 use Rattle.config_text.specs.Judging.{known_screen, good_range, new_link, one_link_more, link_of, overlaps, fault_at}
 

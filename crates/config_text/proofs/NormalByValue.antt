@@ -12,13 +12,13 @@ use Rattle.hotkey_rules.specs.declared.action.Action.{Action}
 use Rattle.hotkey_rules.specs.declared.action.Action.TheVariants as action
 use Rattle.hotkey_rules.specs.declared.rule.Rule.{Rule}
 use Rattle.hotkey_text.specs.Printed.{trigger_text, action_text, hotkey_text}
-use Rattle.config_text.specs.declared.screens.Alias.{Alias}
-use Rattle.config_text.specs.declared.screens.Screen.{Screen}
-use Rattle.config_text.specs.Configurations.{Configuration}
-use Rattle.config_text.specs.Globals.{own_in}
+use Rattle.screen_config.specs.declared.screens.Alias.{Alias}
+use Rattle.screen_config.specs.declared.screens.Screen.{Screen}
+use Rattle.screen_config.specs.Configurations.{Configuration}
+use Rattle.screen_config.specs.Globals.{own_in}
 use Rattle.config_text.specs.Normal.{one_tab, two_tabs, header_text, block_text, section_of, screen_text, alias_text, aliases_of, range_text, link_text, side_links, links_of, screen_in, action_of, hotkey_of, normal}
 use Rattle.share_base.specs.Sides.{side_text, sides}
-use Rattle.config_text.specs.Values.{numbers_of, name_in, name_of, names_screen, links_on, ScreenValue, screen_value, ConfigValue, value_of}
+use Rattle.screen_config.specs.Values.{numbers_of, name_in, name_of, names_screen, links_on, ScreenValue, screen_value, ConfigValue, value_of}
 use Rattle.config_text.proofs.LinksAgain.{side_text_is}
 
 -- ---- the normal form, from a value

@@ -3,8 +3,8 @@ use Rattle.std.proofs.Common.{◌≡◌, ℕ, ◌+◌, ◌<◌, List, ◌++◌, 
 use Rattle.std.specs.List.{flat_map, range_with_len}
 use Rattle.std.proofs.lemmas.List.FromFn.{length-range_with_len, get_or-range_with_len}
 use Rattle.share_base.proofs.FlatMaps.{part_added}
-use Rattle.config_text.specs.Configurations.{Configuration}
-use Rattle.config_text.specs.Values.{numbers_of, hundredths}
+use Rattle.screen_config.specs.Configurations.{Configuration}
+use Rattle.screen_config.specs.Values.{numbers_of, hundredths}
 
 in_range : (f : ℕ → List ℕ) (count i : ℕ) (out new total : List ℕ) → i < count → out ++ flat_map f (drop i (range_with_len 0 count)) ≡ total
     → new ≡ out ++ f i → new ++ flat_map f (drop (i + 1) (range_with_len 0 count)) ≡ total

@@ -23,8 +23,8 @@ use Rattle.option_table.proofs.PrintedBytes.{key_bytes, key_some, key_clean, row
 use Rattle.option_table.proofs.SettingsAgain.{settings_again}
 use Rattle.hotkey_text.specs.Shapes.{is_hotkey}
 use Rattle.config_text.specs.declared.sections.Section.TheVariants as section
-use Rattle.config_text.specs.declared.screens.Screen.{Screen}
-use Rattle.config_text.specs.Configurations.{Configuration, with_screen, with_own}
+use Rattle.screen_config.specs.declared.screens.Screen.{Screen}
+use Rattle.screen_config.specs.Configurations.{Configuration, with_screen, with_own}
 use Rattle.config_text.specs.Shapes.{SettingText, setting_at}
 use Rattle.config_text.specs.Judging.{new_setting}
 use Rattle.config_text.specs.Sections.{in_section, screen_line, global_line as global_in}

@@ -5,23 +5,12 @@ use Rattle.std.proofs.lemmas.Bool.{lt-ltb, eqb-true, false_from_ne_true, and_par
 use Rattle.std.proofs.Common.{eq-eqb}
 use borrow.Author.Tests.{ltb-true}
 use Rattle.std.proofs.lemmas.List.Folds.{Any-from_list_any, list_any-from_Any}
-use Rattle.share_base.specs.declared.shape.Side.{Side}
-use Rattle.share_base.specs.declared.shape.Side.TheVariants.{Left, Right, Up, Down}
 use Rattle.share_base.specs.declared.numbers.ScreenNo.{ScreenNo}
 use Rattle.screen_links.specs.declared.link.Link.{Link}
 use Rattle.screen_links.specs.Adding.{Blocks, Overlaps, IsFree}
-use Rattle.config_text.specs.Judging.{overlaps, same_side}
-
-pub same_side_refl : (s : Side) → same_side s s ≡ true
-same_side_refl Left = refl
-same_side_refl s = refl
-
-pub one_side : (s t : Side) → same_side s t ≡ true → t ≡ s
-one_side Left Left e = refl
-one_side Right Right e = refl
-one_side Up Up e = refl
-one_side Down Down e = refl
-one_side s t e = absurd cc
+use Rattle.share_base.proofs.SameSides.{same_side_refl, one_side}
+use Rattle.config_text.specs.Judging.{overlaps}
+use Rattle.share_base.specs.Shapes.{same_side}
 
 -- the fact that a link blocks another's place is the test
 pub blocks_overlaps : (l k : Link) → Blocks k l.from l.side l.range → overlaps l k ≡ true

@@ -18,12 +18,12 @@ use Rattle.screen_links.specs.Ranges.{IsGood}
 use Rattle.option_table.specs.Standing.{stands_below_screen, stands_for_all}
 use Rattle.option_table.specs.Printed.{option_lines}
 use Rattle.hotkey_rules.proofs.FirstFound.{found_listed}
-use Rattle.config_text.specs.declared.screens.Screen.{Screen}
-use Rattle.config_text.specs.declared.screens.Alias.{Alias}
-use Rattle.config_text.specs.Configurations.{Configuration}
+use Rattle.screen_config.specs.declared.screens.Screen.{Screen}
+use Rattle.screen_config.specs.declared.screens.Alias.{Alias}
+use Rattle.screen_config.specs.Configurations.{Configuration}
 use Rattle.config_text.specs.Normal.{one_tab, two_tabs, header_text, block_text, section_of, screen_text, screens_text, alias_text, aliases_of, aliases_text, range_text, link_text, maybe_link, link_at, side_links, links_of, links_text, hotkeys_text, options_text, normal}
-use Rattle.config_text.specs.Sound.{IsSound, has_own_settings}
-use Rattle.config_text.specs.Values.{names_screen, numbers_of, name_of, hundredths, begins_at, link_beginning}
+use Rattle.screen_config.specs.Sound.{IsSound, has_own_settings}
+use Rattle.screen_config.specs.Values.{names_screen, numbers_of, name_of, hundredths, begins_at, link_beginning}
 use Rattle.hotkey_text.proofs.ActionLengths.{side_short}
 use Rattle.config_text.proofs.FlatMapLengths.{short_within, each_within}
 use Rattle.config_text.proofs.HotkeyLengths.{hotkeys_short}
@@ -188,7 +188,3 @@ normal_short c s =
       links_short c s,
       options_short c s,
     )
-
--- said of the configuration that contracts see
-pub seen_short : (c seen : Configuration) → c ≡ seen → IsSound c → length (normal seen) < 2 ^ 32 - 1
-seen_short c seen e s = subst (λ (k : Configuration). length (normal k) < 2 ^ 32 - 1) e (normal_short c s)

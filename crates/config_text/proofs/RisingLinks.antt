@@ -12,12 +12,12 @@ use Rattle.screen_links.specs.declared.link.Landing.{Landing}
 use Rattle.screen_links.specs.Apart.{AreApart}
 use Rattle.screen_links.proofs.OneLink.{one_leaves}
 use Rattle.hotkey_rules.proofs.FirstFound.{found_listed}
-use Rattle.config_text.specs.Configurations.{Configuration}
+use Rattle.screen_config.specs.Configurations.{Configuration}
 use Rattle.config_text.specs.Judging.{overlaps}
-use Rattle.config_text.specs.Values.{begins_at, link_beginning, links_on, links_in, hundredths, numbers_of}
+use Rattle.screen_config.specs.Values.{begins_at, link_beginning, links_on, links_in, hundredths, numbers_of}
 use Rattle.config_text.proofs.Overlapping.{overlaps_blocks}
 use Rattle.config_text.proofs.Picking.{filter_map_flat}
-use Rattle.config_text.proofs.ValuesAgain.{begins}
+use Rattle.screen_config.proofs.LinkValues.{begins}
 
 -- ---- the order
 

@@ -20,7 +20,7 @@ use Rattle.config_text.proofs.CleanLines.{trimmed_tabs, tabs_off, tight_whole, d
 use Rattle.config_text.specs.declared.faults.ConfigRefusal.{ConfigRefusal}
 use Rattle.config_text.specs.declared.sections.Opened.{Opened}
 use Rattle.config_text.specs.declared.sections.Section.{Section}
-use Rattle.config_text.specs.Configurations.{Configuration}
+use Rattle.screen_config.specs.Configurations.{Configuration}
 use Rattle.config_text.specs.Drafts.{Draft}
 use Rattle.config_text.specs.Lines.{judged, judged_as, read_lines, placed}
 use Rattle.config_text.specs.Normal.{header_text, one_tab}

@@ -4,18 +4,18 @@ use Rattle.std.specs.List.{flat_map, list_all}
 use Rattle.std.proofs.lemmas.Bool.{and_parts, lt-ltb}
 use Rattle.std.proofs.lemmas.List.{map-append}
 use Rattle.share_base.specs.Names.{is_name}
-use Rattle.config_text.specs.declared.screens.Screen.{Screen}
+use Rattle.screen_config.specs.declared.screens.Screen.{Screen}
 use Rattle.config_text.specs.declared.sections.Opened.{Opened}
 use Rattle.config_text.specs.declared.sections.Section.TheVariants as section
-use Rattle.config_text.specs.Configurations.{Configuration, nothing, with_screen}
+use Rattle.screen_config.specs.Configurations.{Configuration, nothing, with_screen}
 use Rattle.config_text.specs.Judging.{new_screen}
 use Rattle.config_text.specs.Normal.{screen_text}
 use Rattle.config_text.specs.Sections.{in_section, screen_header}
-use Rattle.config_text.specs.Sound.{apart, has_own_settings}
+use Rattle.screen_config.specs.Sound.{apart, has_own_settings}
 use Rattle.config_text.proofs.KnownAgain.{names_of}
 use Rattle.config_text.proofs.NamesAgain.{header_again, is_header_again}
 use Rattle.config_text.proofs.NamesClean.{clean_header}
-use Rattle.config_text.proofs.NamesApart.{are_others, others_before, unknown_if_others}
+use Rattle.screen_config.proofs.NamesApart.{are_others, others_before, unknown_if_others}
 use Rattle.config_text.proofs.Runs.{draft_in, ReadsText, no_text, text_both, block_of_text}
 use Rattle.config_text.proofs.OptionsAgain.{own_again}
 

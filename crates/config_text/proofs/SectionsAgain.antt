@@ -10,7 +10,7 @@ use Rattle.config_text.specs.declared.faults.ConfigRefusal.{ConfigRefusal}
 use Rattle.config_text.specs.declared.sections.Opened.{Opened}
 use Rattle.config_text.specs.declared.sections.Section.{Section}
 use Rattle.config_text.specs.declared.sections.Section.TheVariants.{Screens, Aliases, Links, Options}
-use Rattle.config_text.specs.Configurations.{Configuration, nothing}
+use Rattle.screen_config.specs.Configurations.{Configuration, nothing}
 use Rattle.config_text.specs.Drafts.{Draft}
 use Rattle.config_text.specs.Lines.{judged, read_lines, reading, closed}
 use Rattle.config_text.specs.Normal.{section_of}

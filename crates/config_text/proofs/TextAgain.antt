@@ -3,12 +3,12 @@ use Rattle.std.proofs.Common.{◌≡◌, [], ◌++◌, Ok}
 use Rattle.std.specs.Prelude.{codes}
 use Rattle.std.specs.List.{flat_map}
 use Rattle.config_text.specs.declared.sections.Section.TheVariants as section
-use Rattle.config_text.specs.Configurations.{Configuration, nothing}
+use Rattle.screen_config.specs.Configurations.{Configuration, nothing}
 use Rattle.config_text.specs.Lines.{reading}
 use Rattle.config_text.specs.Normal.{normal, section_of, screens_text, aliases_text, links_text, options_text}
-use Rattle.config_text.specs.Sound.{IsSound}
+use Rattle.screen_config.specs.Sound.{IsSound}
 use Rattle.config_text.specs.PrintedAgain.{SpellsAgain}
-use Rattle.config_text.specs.Values.{aliases_in, links_in, numbers_of}
+use Rattle.screen_config.specs.Values.{aliases_in, links_in, numbers_of}
 use Rattle.config_text.proofs.Acceptance.{accepts}
 use Rattle.config_text.proofs.AliasesAgain.{aliases_again}
 use Rattle.config_text.proofs.HotkeysAgain.{options_again}

@@ -4,18 +4,19 @@ use Rattle.std.proofs.Common.{◌≡◌, ℕ, zero, suc, ◌+◌, ◌<◌, ◌�
 use Rattle.std.specs.Prelude.{filter}
 use Rattle.std.specs.List.{flat_map, find, list_any, range_with_len}
 use Rattle.std.specs.Option.{option_to_list}
-use Rattle.std.proofs.lemmas.Bool.{and_parts, eqb-true, eq-eqb, ne_eqb, both_ways, false_from_ne_true}
+use Rattle.std.proofs.lemmas.Bool.{eqb-true, eq-eqb, ne_eqb, both_ways, false_from_ne_true}
 use Rattle.std.proofs.lemmas.Bool.Decides.{eqb_tells}
 use Rattle.std.proofs.lemmas.List.Elements.{filter-append}
 use Rattle.share_base.specs.declared.shape.Side.{Side}
 use Rattle.share_base.specs.declared.shape.Side.TheVariants.{Left, Right, Up, Down}
 use Rattle.screen_links.specs.declared.link.Link.{Link}
-use Rattle.config_text.specs.declared.screens.Alias.{Alias}
-use Rattle.config_text.specs.Configurations.{Configuration}
-use Rattle.config_text.specs.Judging.{same_side}
+use Rattle.screen_config.specs.declared.screens.Alias.{Alias}
+use Rattle.screen_config.specs.Configurations.{Configuration}
+use Rattle.share_base.specs.Shapes.{same_side}
 use Rattle.share_base.specs.Sides.{sides}
-use Rattle.config_text.specs.Values.{ScreenValue, ConfigValue, numbers_of, hundredths, names_screen, aliases_in, begins_at, link_beginning, links_on, links_in, screen_value, value_of}
-use Rattle.config_text.proofs.Overlapping.{one_side, same_side_refl}
+use Rattle.screen_config.specs.Values.{ScreenValue, ConfigValue, numbers_of, hundredths, names_screen, aliases_in, begins_at, link_beginning, links_on, links_in, screen_value, value_of}
+use Rattle.share_base.proofs.SameSides.{one_side, same_side_refl}
+use Rattle.screen_config.proofs.LinkValues.{Begins, begins}
 use Rattle.config_text.proofs.Picking.{map_within, filter_map_within, any_in_range, filter_inside, filter_outside, find_other, find_again, find_nowhere, find_among, filter_map_flat}
 
 -- the same screens and options, with the aliases by screen, and the links by screen and side
@@ -53,17 +54,6 @@ unfolding numbers_of
 aliases_same c n h = aliases_inside n c.aliases 0 (length c.screens) (omega arith) (omega arith)
 
 -- ---- links
-
-pub record Begins (n : ℕ) (side : Side) (a : ℕ) (l : Link) : Type 0 where
-  pub screen : l.from.0 ≡ n
-  pub there : side ≡ l.side
-  pub place : l.range.a ≡ a
-
-pub begins : (n : ℕ) (side : Side) (a : ℕ) (l : Link) → begins_at n side a l ≡ true → Begins n side a l
-begins n side a l e =
-    let outer = and_parts ((l.from.0 == n) && same_side l.side side) (l.range.a == a) e in
-    let inner = and_parts (l.from.0 == n) (same_side l.side side) outer.0 in
-    record { screen = eqb-true l.from.0 n inner.0; there = one_side l.side side inner.1; place = eqb-true l.range.a a outer.1 }
 
 other_number : (k n : ℕ) → (k == n) ≡ false → k ≢ n
 other_number k n e same = both_ways (k == n) e (eq-eqb k n same)

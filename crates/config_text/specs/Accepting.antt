@@ -6,7 +6,7 @@ use Rattle.config_text.specs.declared.faults.ConfigKind.TheVariants as kind
 use Rattle.config_text.specs.declared.faults.ConfigRefusal.{ConfigRefusal}
 use Rattle.config_text.specs.declared.sections.Opened.{Opened}
 use Rattle.config_text.specs.Drafts.{Draft}
-use Rattle.config_text.specs.Configurations.{Configuration}
+use Rattle.screen_config.specs.Configurations.{Configuration}
 use Rattle.config_text.specs.Lines.{judged, start, refused}
 
 -- these lines, numbered from n on, are good and lead from one draft to the other

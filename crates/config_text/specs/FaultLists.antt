@@ -12,10 +12,10 @@ use Rattle.option_table.specs.Values.{value_of}
 use Rattle.config_text.specs.declared.faults.ConfigKind.{ConfigKind}
 use Rattle.config_text.specs.declared.faults.ConfigKind.TheVariants as kind
 use Rattle.config_text.specs.declared.faults.Fault.{Fault}
-use Rattle.config_text.specs.Configurations.{Configuration, screen_of}
+use Rattle.screen_config.specs.Configurations.{Configuration, screen_of}
 use Rattle.config_text.specs.Shapes.{RangeText, LinkText, SettingText}
 use Rattle.config_text.specs.Judging.{fault_at, range_of, link_of, overlaps}
-use Rattle.config_text.specs.Sound.{most_screens, most_aliases}
+use Rattle.screen_config.specs.Sound.{most_screens, most_aliases}
 
 abbrev pub fault_unless : Bool → ConfigKind → ℕ → List Fault
 fault_unless true k left = []

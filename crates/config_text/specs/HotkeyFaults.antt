@@ -6,9 +6,10 @@ use Rattle.hotkey_text.specs.Shapes.{HotkeyForm}
 use Rattle.hotkey_text.specs.FaultLists.{line_faults}
 use Rattle.config_text.specs.declared.faults.ConfigKind.TheVariants as kind
 use Rattle.config_text.specs.declared.faults.Fault.{Fault}
-use Rattle.config_text.specs.Configurations.{Configuration, screen_of}
+use Rattle.screen_config.specs.Configurations.{Configuration, screen_of}
 use Rattle.config_text.specs.Judging.{fault_at}
-use Rattle.config_text.specs.Hotkeys.{kind_of, actions_of, has_room}
+use Rattle.config_text.specs.Hotkeys.{kind_of, actions_of}
+use Rattle.screen_config.specs.AddingHotkeys.{has_room}
 use Rattle.config_text.specs.FaultLists.{fault_unless}
 
 abbrev pub line_fault : HotkeyFault → Fault

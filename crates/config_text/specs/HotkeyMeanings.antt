@@ -8,8 +8,9 @@ use Rattle.hotkey_text.specs.Names.{key_action, mouse_action}
 use Rattle.hotkey_text.specs.Shapes.{ActionForm, HotkeyForm}
 use Rattle.hotkey_text.specs.Arguments.{ActionText, Key, Mouse, Lock, SwitchTo, SwitchToward}
 use Rattle.hotkey_text.specs.SpellingWords.{SpellsTrigger, SpellsWords}
-use Rattle.config_text.specs.Configurations.{Configuration, screen_of, with_hotkey}
-use Rattle.config_text.specs.Hotkeys.{no_button, has_room, next_rule}
+use Rattle.screen_config.specs.Configurations.{Configuration, screen_of, with_hotkey}
+use Rattle.config_text.specs.Hotkeys.{no_button}
+use Rattle.screen_config.specs.AddingHotkeys.{has_room, next_rule}
 
 -- these words mean that action, whose key has no button yet
 abbrev pub MeansWords : Configuration → ActionText → Action → Type 0

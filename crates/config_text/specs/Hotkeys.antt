@@ -1,12 +1,9 @@
 -- A hotkey's line judged: its words from left to right, and then the limits.
-use Rattle.std.specs.Prelude.{ℕ, ◌+◌, Bool, ◌&&◌, nat_lt, nat_le, List, [], ◌∷◌, ◌++◌, length, map, Result, Ok, Err, Option, Some, None}
+use Rattle.std.specs.Prelude.{ℕ, List, [], ◌∷◌, ◌++◌, Result, Ok, Err, Option, Some, None}
 use Rattle.share_base.specs.declared.numbers.Button.{Button}
 use Rattle.text_lines.specs.Reading.{◌>>=◌}
 use Rattle.hotkey_rules.specs.declared.action.Action.{Action}
 use Rattle.hotkey_rules.specs.declared.action.Action.TheVariants as action
-use Rattle.hotkey_rules.specs.declared.trigger.Trigger.{Trigger}
-use Rattle.hotkey_rules.specs.declared.rule.Rule.{Rule}
-use Rattle.hotkey_rules.specs.Rules.{rule_of, most}
 use Rattle.hotkey_text.specs.declared.faults.HotkeyKind.{HotkeyKind}
 use Rattle.hotkey_text.specs.declared.faults.HotkeyKind.TheVariants as hotkey_kind
 use Rattle.hotkey_text.specs.declared.faults.HotkeyFault.{HotkeyFault}
@@ -16,9 +13,9 @@ use Rattle.hotkey_text.specs.Arguments as words
 use Rattle.config_text.specs.declared.faults.ConfigKind.{ConfigKind}
 use Rattle.config_text.specs.declared.faults.ConfigKind.TheVariants as kind
 use Rattle.config_text.specs.declared.faults.Fault.{Fault}
-use Rattle.config_text.specs.Configurations.{Configuration, screen_of, with_hotkey}
+use Rattle.screen_config.specs.Configurations.{Configuration, screen_of, with_hotkey}
 use Rattle.config_text.specs.Judging.{fault_at, or_fault, unless}
-use Rattle.config_text.specs.ActionKeys.{most_actions, most_action_keys, keys_in, with_keys, actions_in, action_keys, with_button}
+use Rattle.screen_config.specs.AddingHotkeys.{has_room, next_rule}
 
 -- ---- words
 
@@ -66,27 +63,6 @@ actions_of c (form ∷ forms) = do
   first ← action_of c form
   rest ← actions_of c forms
   Ok (first ∷ rest)
-
--- ---- limits
-
--- the keys of these rules and of actions more
-abbrev pub keys_with : List Rule → List Action → List ℕ
-keys_with hotkeys actions = with_keys (action_keys hotkeys) (keys_in actions)
-
--- one rule more, with these actions, is within the limits
-unfoldable pub has_room : List Rule → List Action → Bool
-has_room hotkeys actions =
-    nat_lt (length hotkeys) most
-    && nat_le (length (keys_with hotkeys actions)) most_action_keys
-    && nat_le (length (actions_in hotkeys) + length actions) most_actions
-
--- a rule of actions that have the buttons of these keys
-abbrev pub numbered : List ℕ → Trigger → List Action → List Action → Rule
-numbered keys trigger press release = rule_of trigger (map (with_button keys) press) (map (with_button keys) release)
-
--- the rule that follows these rules
-abbrev pub next_rule : List Rule → Trigger → List Action → List Action → Rule
-next_rule hotkeys trigger press release = numbered (keys_with hotkeys (press ++ release)) trigger press release
 
 unfoldable pub new_hotkey : ℕ → Configuration → HotkeyForm → Result Configuration Fault
 new_hotkey whole c line = do

@@ -3,7 +3,7 @@
 use Rattle.std.specs.Prelude.{ℕ, Bool, true, false, not, ◌==◌, ◌&&◌, nat_lt, nat_le, min, max, length, Result, Ok, Err, Option, Some, None, is_none}
 use Rattle.std.specs.List.{list_any}
 use Rattle.share_base.specs.declared.shape.Side.{Side}
-use Rattle.share_base.specs.declared.shape.Side.TheVariants as side
+use Rattle.share_base.specs.Shapes.{same_side}
 use Rattle.share_base.specs.Names.{is_name}
 use Rattle.text_lines.specs.Reading.{◌>>=◌, Text}
 use Rattle.screen_links.specs.declared.link.Link.{Link}
@@ -15,9 +15,9 @@ use Rattle.config_text.specs.declared.faults.ConfigKind.{ConfigKind}
 use Rattle.config_text.specs.declared.faults.ConfigKind.TheVariants as kind
 use Rattle.config_text.specs.declared.faults.Fault.{Fault}
 use Rattle.config_text.specs.declared.words.Setting.{Setting}
-use Rattle.config_text.specs.Configurations.{Configuration, screen_of, with_screen, with_alias, with_link}
+use Rattle.screen_config.specs.Configurations.{Configuration, screen_of, with_screen, with_alias, with_link}
 use Rattle.config_text.specs.Shapes.{RangeText, LinkText, SettingText}
-use Rattle.config_text.specs.Sound.{most_screens, most_aliases}
+use Rattle.screen_config.specs.Sound.{most_screens, most_aliases}
 
 abbrev pub fault_at : ConfigKind → ℕ → Fault
 fault_at k left = record { kind = k; left = left }
@@ -66,13 +66,6 @@ good_range None = Ok (range_of 0 100)
 good_range (Some r) = do
   _ ← unless (nat_lt r.a r.b && nat_le r.b 100) kind.BadRange r.left
   Ok (range_of r.a r.b)
-
-abbrev pub same_side : Side → Side → Bool
-same_side side.Left side.Left = true
-same_side side.Right side.Right = true
-same_side side.Up side.Up = true
-same_side side.Down side.Down = true
-same_side a b = false
 
 -- they stand on one side of one screen, and share a hundredth of it
 unfoldable pub overlaps : Link → Link → Bool

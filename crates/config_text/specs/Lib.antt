@@ -1,11 +1,7 @@
 pub mod Accepting
-pub mod ActionKeys
-pub mod AddingHotkeys
 pub mod Answering
-pub mod Configurations
 pub mod Drafts
 pub mod FaultLists
-pub mod Globals
 pub mod HotkeyFaults
 pub mod HotkeyMeanings
 pub mod Hotkeys
@@ -17,8 +13,5 @@ pub mod PrintedAgain
 pub mod Sections
 pub mod Seen
 pub mod Shapes
-pub mod Sound
-pub mod SoundHotkeys
 pub mod Spelling
 pub mod SpellingLinks
-pub mod Values

@@ -9,7 +9,7 @@ use Rattle.config_text.specs.declared.faults.Fault.{Fault}
 use Rattle.config_text.specs.declared.faults.ConfigRefusal.{ConfigRefusal}
 use Rattle.config_text.specs.declared.sections.Opened.{Opened}
 use Rattle.config_text.specs.Drafts.{Draft}
-use Rattle.config_text.specs.Configurations.{Configuration, nothing}
+use Rattle.screen_config.specs.Configurations.{Configuration, nothing}
 use Rattle.config_text.specs.Sections.{words_in}
 
 abbrev pub refused : ℕ → ℕ → ConfigKind → ConfigRefusal

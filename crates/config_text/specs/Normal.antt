@@ -12,11 +12,11 @@ use Rattle.hotkey_rules.specs.declared.action.Action.{Action}
 use Rattle.hotkey_rules.specs.declared.action.Action.TheVariants as action
 use Rattle.hotkey_rules.specs.declared.rule.Rule.{Rule}
 use Rattle.hotkey_text.specs.Printed.{trigger_text, action_text, hotkey_text}
-use Rattle.config_text.specs.declared.screens.Screen.{Screen}
-use Rattle.config_text.specs.declared.screens.Alias.{Alias}
-use Rattle.config_text.specs.Configurations.{Configuration}
+use Rattle.screen_config.specs.declared.screens.Screen.{Screen}
+use Rattle.screen_config.specs.declared.screens.Alias.{Alias}
+use Rattle.screen_config.specs.Configurations.{Configuration}
 use Rattle.share_base.specs.Sides.{side_text, sides as all_sides}
-use Rattle.config_text.specs.Values.{names_screen, numbers_of, name_of, hundredths, link_beginning}
+use Rattle.screen_config.specs.Values.{names_screen, numbers_of, name_of, hundredths, link_beginning}
 
 abbrev pub one_tab : List ℕ
 one_tab = 9 ∷ []

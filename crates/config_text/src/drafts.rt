@@ -5,13 +5,15 @@ ghost use Rattle.std.specs.Str.{bytes_eq};
 ghost use Rattle.text_lines.specs.Lines.{trimmed};
 ghost use Rattle.config_text.specs.Answering.{Judges};
 ghost use Rattle.config_text.specs.Sections as spec;
-ghost use Rattle.config_text.specs.Sound.{is_end};
+ghost use Rattle.screen_config.specs.Sound.{is_end};
 
-use crate::config::Config;
 use crate::faults::{ConfigKind, Fault, LineFault};
+use crate::hotkey_judging::new_hotkey;
+use crate::judging::{known_screen, new_alias, new_link, new_screen};
 use crate::sections::{Opened, Section, is_header};
 use crate::shapes;
 use crate::words::{formed, found, global_setting, own_setting};
+use screen_config::Config;
 use std::marker::Model;
 
 /// What the lines so far have given.
@@ -69,7 +71,7 @@ impl Draft {
     {
         let name = formed(shapes::header(bytes))?;
         let screen = self.config.count();
-        self.config.new_screen(name, bytes.len())?;
+        new_screen(&mut self.config, name, bytes.len())?;
         self.header = Some(screen);
         Ok(())
     }
@@ -79,7 +81,7 @@ impl Draft {
         ensures { Judges (λ _. self.new) result (spec.known_header self.old bytes.now) }
     {
         let name = formed(shapes::header(bytes))?;
-        let screen = self.config.known_screen(name)?;
+        let screen = known_screen(&self.config, name)?;
         self.header = Some(screen);
         Ok(())
     }
@@ -107,7 +109,7 @@ impl Draft {
             return Err(bad_from_its_begin(bytes));
         };
         let name = formed(shapes::alias(bytes))?;
-        self.config.new_alias(screen, name, bytes.len())
+        new_alias(&mut self.config, screen, name, bytes.len())
     }
 
     #[tactic(auto, unfolding(crate::specs::Sections::link_line))]
@@ -118,7 +120,7 @@ impl Draft {
             return Err(bad_from_its_begin(bytes));
         };
         let text = formed(shapes::link(bytes))?;
-        self.config.new_link(screen, text, bytes.len())
+        new_link(&mut self.config, screen, text, bytes.len())
     }
 
     #[tactic(auto, unfolding(crate::specs::Sections::global_line))]
@@ -136,7 +138,7 @@ impl Draft {
         ensures { Judges (λ _. self.new) result (spec.hotkey_line self.old bytes.now) }
     {
         let form = formed(hotkey_text::hotkey(bytes))?;
-        self.config.new_hotkey(form, bytes.len())
+        new_hotkey(&mut self.config, form, bytes.len())
     }
 
     fn option_line(&mut self, bytes: &[u8]) -> Result<(), LineFault>

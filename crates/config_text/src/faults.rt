@@ -113,23 +113,3 @@ impl From<OutOfMemory> for LineFault {
         LineFault::OutOfMemory
     }
 }
-
-/// Why a hotkey was not added.
-#[derive(Clone, Copy, Debug, PartialEq, Eq)]
-pub(crate) enum HotkeysFault {
-    /// It would pass a limit.
-    Full,
-    /// Memory could not be had.
-    OutOfMemory,
-}
-
-impl From<OutOfMemory> for HotkeysFault {
-    ghost use Rattle.std.specs.Prelude.{◌≡◌};
-    ghost use Rattle.config_text.specs.declared.faults.HotkeysFault.TheVariants.{OutOfMemory as no_memory};
-
-    ghost from_gives = { λ _ e. e ≡ no_memory };
-
-    fn from(_error: OutOfMemory) -> HotkeysFault {
-        HotkeysFault::OutOfMemory
-    }
-}

@@ -6,13 +6,13 @@ ghost use Rattle.screen_links.specs.Adding.{HasGoodRanges};
 ghost use Rattle.screen_links.specs.Ranges.{IsGood};
 ghost use Rattle.config_text.specs.Answering.{Judges};
 ghost use Rattle.config_text.specs.Judging as spec;
-ghost use Rattle.config_text.specs.Sound.{is_end};
+ghost use Rattle.screen_config.specs.Sound.{is_end};
 ghost use Rattle.config_text.specs.Seen.{link_text, maybe_range_text};
 
-use crate::config::Config;
 use crate::faults::{ConfigKind, Fault, LineFault};
 use crate::shapes::{LinkText, RangeText};
 use crate::words::unless;
+use screen_config::Config;
 use screen_links::{Link, LinkFault, Range};
 use share_base::{ScreenName, ScreenNo};
 use text_lines::Word;
@@ -45,112 +45,115 @@ fn good_range(range: Option<RangeText>) -> Result<Range, LineFault>
     }
 }
 
-impl Config {
-    /// The screen of that name or alias.
-    #[tactic(auto, unfolding(crate::specs::Judging::known_screen))]
-    pub(crate) fn known_screen(&self, name: Word<'_>) -> Result<u16, LineFault>
-        ensures judged { Judges (λ x. x) result (spec.known_screen self.now (word_text name.entry)) }
-        ensures known { IfOk result (λ n. n < length self.now.screens) }
-    {
-        if ScreenName::read(name.text).is_none() {
-            return refusal(ConfigKind::BadName, name.left);
-        }
-        match self.find(name.text) {
-            Some(screen) => Ok(screen.0),
-            None => refusal(ConfigKind::UnknownScreen, name.left),
-        }
+/// The screen of that name or alias.
+#[tactic(auto, unfolding(crate::specs::Judging::known_screen))]
+pub(crate) fn known_screen(config: &Config, name: Word<'_>) -> Result<u16, LineFault>
+    ensures judged { Judges (λ x. x) result (spec.known_screen config.now (word_text name.entry)) }
+    ensures known { IfOk result (λ n. n < length config.now.screens) }
+{
+    if ScreenName::read(name.text).is_none() {
+        return refusal(ConfigKind::BadName, name.left);
     }
+    match config.find(name.text) {
+        Some(screen) => Ok(screen.0),
+        None => refusal(ConfigKind::UnknownScreen, name.left),
+    }
+}
 
-    /// A new screen, in whose line `whole` bytes stand.
-    #[tactic(auto, unfolding(crate::specs::Judging::new_screen))]
-    pub(crate) fn new_screen(&mut self, name: Word<'_>, whole: usize) -> Result<(), LineFault>
-        ensures judged { Judges (λ _. self.new) result (spec.new_screen whole self.old (word_text name.entry)) }
-        ensures one_more { OnOk result (length self.new.screens ≡ length self.old.screens + 1) }
-        ensures no_fewer { length self.old.screens ≤ length self.new.screens }
-    {
-        let Some(kept) = ScreenName::read(name.text) else {
-            return refusal(ConfigKind::BadName, name.left);
-        };
-        unless(
-            self.find(name.text).is_none(),
-            ConfigKind::DuplicateScreen,
-            name.left,
-        )?;
-        if self.count() >= 64 {
-            return refusal(ConfigKind::TooMany, whole);
-        }
-        self.add_screen(kept)?;
-        Ok(())
+/// A new screen, in whose line `whole` bytes stand.
+#[tactic(auto, unfolding(crate::specs::Judging::new_screen))]
+pub(crate) fn new_screen(config: &mut Config, name: Word<'_>, whole: usize) -> Result<(), LineFault>
+    ensures judged { Judges (λ _. config.new) result (spec.new_screen whole config.old (word_text name.entry)) }
+    ensures one_more { OnOk result (length config.new.screens ≡ length config.old.screens + 1) }
+    ensures no_fewer { length config.old.screens ≤ length config.new.screens }
+{
+    let Some(kept) = ScreenName::read(name.text) else {
+        return refusal(ConfigKind::BadName, name.left);
+    };
+    unless(
+        config.find(name.text).is_none(),
+        ConfigKind::DuplicateScreen,
+        name.left,
+    )?;
+    if config.count() >= 64 {
+        return refusal(ConfigKind::TooMany, whole);
     }
+    config.add_screen(kept)?;
+    Ok(())
+}
 
-    /// A new alias of a screen, in whose line `whole` bytes stand. It isn't `end`.
-    #[tactic(auto, unfolding(crate::specs::Judging::new_alias))]
-    pub(crate) fn new_alias(
-        &mut self,
-        screen: u16,
-        name: Word<'_>,
-        whole: usize,
-    ) -> Result<(), LineFault>
-        requires known { screen < length self.old.screens }
-        requires no_end { is_end name.text.now ≡ false }
-        ensures judged { Judges (λ _. self.new) result (spec.new_alias whole self.old screen (word_text name.entry)) }
-        ensures same_count { length self.new.screens ≡ length self.old.screens }
-    {
-        let Some(kept) = ScreenName::read(name.text) else {
-            return refusal(ConfigKind::BadName, name.left);
-        };
-        unless(
-            self.find(name.text).is_none(),
-            ConfigKind::DuplicateAlias,
-            name.left,
-        )?;
-        if self.alias_count() >= 256 {
-            return refusal(ConfigKind::TooMany, whole);
-        }
-        self.add_alias(kept, screen)?;
-        Ok(())
+/// A new alias of a screen, in whose line `whole` bytes stand. It isn't `end`.
+#[tactic(auto, unfolding(crate::specs::Judging::new_alias))]
+pub(crate) fn new_alias(
+    config: &mut Config,
+    screen: u16,
+    name: Word<'_>,
+    whole: usize,
+) -> Result<(), LineFault>
+    requires known { screen < length config.old.screens }
+    requires no_end { is_end name.text.now ≡ false }
+    ensures judged { Judges (λ _. config.new) result (spec.new_alias whole config.old screen (word_text name.entry)) }
+    ensures same_count { length config.new.screens ≡ length config.old.screens }
+{
+    let Some(kept) = ScreenName::read(name.text) else {
+        return refusal(ConfigKind::BadName, name.left);
+    };
+    unless(
+        config.find(name.text).is_none(),
+        ConfigKind::DuplicateAlias,
+        name.left,
+    )?;
+    if config.aliases().len() >= 256 {
+        return refusal(ConfigKind::TooMany, whole);
     }
+    config.add_alias(kept, screen)?;
+    Ok(())
+}
 
-    /// A further link, whose side stands `left` bytes before the end of a line of `whole` bytes.
-    #[tactic(auto, using(crate::proofs::NewLinks::one_more))]
-    fn one_link_more(&mut self, link: Link, left: usize, whole: usize) -> Result<(), LineFault>
-        requires good { HasGoodRanges link }
-        requires leaves { link.from.0 < length self.old.screens }
-        requires enters { link.to.0 < length self.old.screens }
-        ensures judged { Judges (λ _. self.new) result (spec.one_link_more whole self.old left link) }
-        ensures same_count { length self.new.screens ≡ length self.old.screens }
-    {
-        match self.add_link(link) {
-            Ok(()) => Ok(()),
-            Err(LinkFault::BadRange) => unreachable!(),
-            Err(LinkFault::Overlap) => refusal(ConfigKind::Overlap, left),
-            Err(LinkFault::Full) => refusal(ConfigKind::TooMany, whole),
-            Err(LinkFault::OutOfMemory) => Err(LineFault::OutOfMemory),
-        }
+/// A further link, whose side stands `left` bytes before the end of a line of `whole` bytes.
+#[tactic(auto, using(crate::proofs::NewLinks::one_more))]
+fn one_link_more(
+    config: &mut Config,
+    link: Link,
+    left: usize,
+    whole: usize,
+) -> Result<(), LineFault>
+    requires good { HasGoodRanges link }
+    requires leaves { link.from.0 < length config.old.screens }
+    requires enters { link.to.0 < length config.old.screens }
+    ensures judged { Judges (λ _. config.new) result (spec.one_link_more whole config.old left link) }
+    ensures same_count { length config.new.screens ≡ length config.old.screens }
+{
+    match config.add_link(link) {
+        Ok(()) => Ok(()),
+        Err(LinkFault::BadRange) => unreachable!(),
+        Err(LinkFault::Overlap) => refusal(ConfigKind::Overlap, left),
+        Err(LinkFault::Full) => refusal(ConfigKind::TooMany, whole),
+        Err(LinkFault::OutOfMemory) => Err(LineFault::OutOfMemory),
     }
+}
 
-    /// A new link from a screen, in whose line `whole` bytes stand.
-    #[tactic(auto, unfolding(crate::specs::Judging::new_link))]
-    pub(crate) fn new_link(
-        &mut self,
-        from: u16,
-        text: LinkText<'_>,
-        whole: usize,
-    ) -> Result<(), LineFault>
-        requires { from < length self.old.screens }
-        ensures judged { Judges (λ _. self.new) result (spec.new_link whole self.old from (link_text text.entry)) }
-        ensures same_count { length self.new.screens ≡ length self.old.screens }
-    {
-        let to = self.known_screen(text.name)?;
-        let range = good_range(text.source)?;
-        let onto = good_range(text.target)?;
-        let link = Link {
-            from: ScreenNo(from),
-            side: text.side,
-            range,
-            to: ScreenNo(to),
-            onto,
-        };
-        self.one_link_more(link, text.left, whole)
-    }
+/// A new link from a screen, in whose line `whole` bytes stand.
+#[tactic(auto, unfolding(crate::specs::Judging::new_link))]
+pub(crate) fn new_link(
+    config: &mut Config,
+    from: u16,
+    text: LinkText<'_>,
+    whole: usize,
+) -> Result<(), LineFault>
+    requires { from < length config.old.screens }
+    ensures judged { Judges (λ _. config.new) result (spec.new_link whole config.old from (link_text text.entry)) }
+    ensures same_count { length config.new.screens ≡ length config.old.screens }
+{
+    let to = known_screen(config, text.name)?;
+    let range = good_range(text.source)?;
+    let onto = good_range(text.target)?;
+    let link = Link {
+        from: ScreenNo(from),
+        side: text.side,
+        range,
+        to: ScreenNo(to),
+        onto,
+    };
+    one_link_more(config, link, text.left, whole)
 }

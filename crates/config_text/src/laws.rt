@@ -7,7 +7,7 @@ ghost use Rattle.text_lines.specs.Spelling.{StopsAt};
 ghost use Rattle.option_table.specs.declared.rows.Scope.{Scope};
 ghost use Rattle.hotkey_text.specs.Shapes.{HotkeyForm};
 ghost use Rattle.hotkey_text.specs.Spelling.{SpellsHotkey};
-ghost use Rattle.config_text.specs.Configurations.{Configuration};
+ghost use Rattle.screen_config.specs.Configurations.{Configuration};
 ghost use Rattle.config_text.specs.Judging.{known_screen, new_screen, new_alias, new_link, new_setting};
 ghost use Rattle.config_text.specs.FaultLists.{known_faults, screen_faults, alias_faults, link_faults, setting_faults, first, refusal_of, AreInOrder};
 ghost use Rattle.config_text.specs.Hotkeys.{new_hotkey};

@@ -7,11 +7,8 @@
 //! of files, of connections and of what a server does with a configuration.
 #![tactic(auto)]
 
-mod action_keys;
-mod config;
 mod drafts;
 mod faults;
-mod globals;
 #[cfg(test)]
 mod grammar_tests;
 mod hotkey_judging;
@@ -20,12 +17,10 @@ mod hotkey_print_tests;
 mod hotkey_printing;
 #[cfg(test)]
 mod hotkey_tests;
-mod hotkeys;
 mod judging;
 mod laws;
 mod parsing;
 mod printing;
-mod screens;
 mod sections;
 mod shapes;
 #[cfg(test)]
@@ -33,9 +28,7 @@ mod tests;
 mod value_laws;
 mod words;
 
-pub use config::Config;
 pub use faults::{ConfigFault, ConfigKind, ConfigRefusal};
-pub use globals::{Globals, Protocol};
 pub use laws::{
     aliases_are_spelled, faults_stand_in_order, headers_are_spelled, hotkeys_mean_what_they_spell,
     lines_stop_at_one_place, lines_stop_where_they_cannot_go_on, links_are_spelled,
@@ -44,4 +37,5 @@ pub use laws::{
 };
 pub use parsing::parse;
 pub use printing::print;
-pub use value_laws::{each_link_is_in_the_value, normal_form_is_of_the_value};
+pub use screen_config::{Config, Globals, Protocol, each_link_is_in_the_value};
+pub use value_laws::normal_form_is_of_the_value;

@@ -5,12 +5,12 @@ ghost use Rattle.std.specs.Str.Lines.{lines};
 ghost use Rattle.config_text.specs.Lines as spec;
 ghost use Rattle.config_text.specs.Answering.{Answers, PlacedAs, RefusesBy};
 ghost use Rattle.config_text.specs.Accepting.{Accepts, Refuses};
-ghost use Rattle.config_text.specs.Configurations.{Configuration};
+ghost use Rattle.screen_config.specs.Configurations.{Configuration};
 ghost use Rattle.config_text.specs.declared.faults.ConfigRefusal.{ConfigRefusal as Refusal};
 
-use crate::config::Config;
 use crate::drafts::Draft;
 use crate::faults::{ConfigFault, ConfigKind, ConfigRefusal, LineFault};
+use screen_config::Config;
 use std::alloc::Global;
 use text_lines::{TextLine, cut_line, text_line};
 

@@ -8,11 +8,11 @@ ghost use Rattle.share_base.specs.Sides.{sides};
 ghost use Rattle.config_text.specs.Normal as spec;
 ghost use Rattle.config_text.specs.Normal.{normal};
 ghost use Rattle.config_text.specs.PrintedAgain.{SpellsAgain};
-ghost use Rattle.config_text.specs.Values.{begins_at, name_of};
+ghost use Rattle.screen_config.specs.Values.{begins_at, name_of};
 
-use crate::config::Config;
-use crate::screens::{Alias, Screen};
+use crate::hotkey_printing::put_hotkeys;
 use option_table::{put_number, put_option_lines};
+use screen_config::{Alias, Config, Screen};
 use screen_links::{Link, Range};
 use share_base::{Octets, OutOfMemory, ScreenNo, Side};
 use std::alloc::Global;
@@ -127,130 +127,143 @@ fn find_link(links: &[Link], from: u16, side: Side, a: u8) -> Option<&Link>
     links.iter().find(|link| is_link_at(link, from, side, a))
 }
 
-impl Config {
-    #[tactic(auto, unfolding(crate::specs::Normal::aliases_of))]
-    fn put_aliases_of(
-        &self,
-        alloc: Global,
-        screen: u16,
-        out: &mut Octets,
-    ) -> Result<(), OutOfMemory>
-        requires { screen < length self.now.screens }
-        ensures { OnOk result (out.new ≡ out.old ++ spec.aliases_of self.now screen) }
-    {
-        let mut below = Octets::new(alloc);
-        put_alias_lines(screen, self.aliases.as_slice(), &mut below)?;
-        put_block(
-            self.name(ScreenNo(screen)).as_slice(),
-            below.as_slice(),
-            out,
-        )
-    }
+#[tactic(auto, unfolding(crate::specs::Normal::aliases_of))]
+fn put_aliases_of(
+    config: &Config,
+    alloc: Global,
+    screen: u16,
+    out: &mut Octets,
+) -> Result<(), OutOfMemory>
+    requires { screen < length config.now.screens }
+    ensures { OnOk result (out.new ≡ out.old ++ spec.aliases_of config.now screen) }
+{
+    let mut below = Octets::new(alloc);
+    put_alias_lines(screen, config.aliases(), &mut below)?;
+    put_block(
+        config.name(ScreenNo(screen)).as_slice(),
+        below.as_slice(),
+        out,
+    )
+}
 
-    fn put_aliases(&self, alloc: Global, out: &mut Octets) -> Result<(), OutOfMemory>
-        ensures { OnOk result (out.new ≡ out.old ++ spec.aliases_text self.now) }
-    {
-        for screen in 0..self.count() {
-            self.put_aliases_of(alloc, screen, out)?;
-        }
-        Ok(())
+fn put_aliases(config: &Config, alloc: Global, out: &mut Octets) -> Result<(), OutOfMemory>
+    ensures { OnOk result (out.new ≡ out.old ++ spec.aliases_text config.now) }
+{
+    for screen in 0..config.count() {
+        put_aliases_of(config, alloc, screen, out)?;
     }
+    Ok(())
+}
 
-    /// The name of a screen, or nothing where it isn't one.
-    pub(crate) fn name_bytes(&self, screen: ScreenNo) -> &[u8]
-        ensures { result.now ≡ name_of self.now screen.0 }
-    {
-        match self.screens.get(screen.0 as usize) {
-            Some(screen) => screen.name.as_slice(),
-            None => &[],
-        }
+/// The name of a screen, or nothing where it isn't one.
+pub(crate) fn name_bytes(config: &Config, screen: ScreenNo) -> &[u8]
+    ensures { result.now ≡ name_of config.now screen.0 }
+{
+    match config.screens().get(screen.0 as usize) {
+        Some(screen) => screen.name.as_slice(),
+        None => &[],
     }
+}
 
-    #[tactic(auto, unfolding(crate::specs::Normal::link_text))]
-    fn put_link(&self, link: &Link, out: &mut Octets) -> Result<(), OutOfMemory>
-        ensures { OnOk result (out.new ≡ out.old ++ spec.link_text self.now link.now) }
-    {
-        out.extend(b"\t\t")?;
-        out.extend(link.side.word())?;
-        put_range(link.range, out)?;
-        out.extend(b" = ")?;
-        out.extend(self.name_bytes(link.to))?;
-        put_range(link.onto, out)?;
-        out.push(b'\n')
-    }
+#[tactic(auto, unfolding(crate::specs::Normal::link_text))]
+fn put_link(config: &Config, link: &Link, out: &mut Octets) -> Result<(), OutOfMemory>
+    ensures { OnOk result (out.new ≡ out.old ++ spec.link_text config.now link.now) }
+{
+    out.extend(b"\t\t")?;
+    out.extend(link.side.word())?;
+    put_range(link.range, out)?;
+    out.extend(b" = ")?;
+    out.extend(name_bytes(config, link.to))?;
+    put_range(link.onto, out)?;
+    out.push(b'\n')
+}
 
-    #[tactic(auto, unfolding(crate::specs::Normal::link_at))]
-    fn put_link_at(&self, from: u16, side: Side, a: u8, out: &mut Octets) -> Result<(), OutOfMemory>
-        ensures { OnOk result (out.new ≡ out.old ++ spec.link_at self.now from side a) }
-    {
-        match find_link(self.links.as_slice(), from, side, a) {
-            Some(link) => self.put_link(link, out),
-            None => Ok(()),
-        }
+#[tactic(auto, unfolding(crate::specs::Normal::link_at))]
+fn put_link_at(
+    config: &Config,
+    from: u16,
+    side: Side,
+    a: u8,
+    out: &mut Octets,
+) -> Result<(), OutOfMemory>
+    ensures { OnOk result (out.new ≡ out.old ++ spec.link_at config.now from side a) }
+{
+    match find_link(config.links().as_slice(), from, side, a) {
+        Some(link) => put_link(config, link, out),
+        None => Ok(()),
     }
+}
 
-    #[tactic(auto, unfolding(crate::specs::Normal::side_links))]
-    fn put_side(&self, from: u16, side: Side, out: &mut Octets) -> Result<(), OutOfMemory>
-        ensures { OnOk result (out.new ≡ out.old ++ spec.side_links self.now from side) }
-    {
-        for a in 0..100 {
-            self.put_link_at(from, side, a, out)?;
-        }
-        Ok(())
+#[tactic(auto, unfolding(crate::specs::Normal::side_links))]
+fn put_side(config: &Config, from: u16, side: Side, out: &mut Octets) -> Result<(), OutOfMemory>
+    ensures { OnOk result (out.new ≡ out.old ++ spec.side_links config.now from side) }
+{
+    for a in 0..100 {
+        put_link_at(config, from, side, a, out)?;
     }
+    Ok(())
+}
 
-    fn put_sides(&self, from: u16, out: &mut Octets) -> Result<(), OutOfMemory>
-        ensures { OnOk result (out.new ≡ out.old ++ flat_map (spec.side_links self.now from) sides) }
-    {
-        for side in SIDES {
-            self.put_side(from, side, out)?;
-        }
-        Ok(())
+fn put_sides(config: &Config, from: u16, out: &mut Octets) -> Result<(), OutOfMemory>
+    ensures { OnOk result (out.new ≡ out.old ++ flat_map (spec.side_links config.now from) sides) }
+{
+    for side in SIDES {
+        put_side(config, from, side, out)?;
     }
+    Ok(())
+}
 
-    #[tactic(auto, unfolding(crate::specs::Normal::links_of))]
-    fn put_links_of(&self, alloc: Global, from: u16, out: &mut Octets) -> Result<(), OutOfMemory>
-        requires { from < length self.now.screens }
-        ensures { OnOk result (out.new ≡ out.old ++ spec.links_of self.now from) }
-    {
-        let mut below = Octets::new(alloc);
-        self.put_sides(from, &mut below)?;
-        put_block(self.name(ScreenNo(from)).as_slice(), below.as_slice(), out)
-    }
+#[tactic(auto, unfolding(crate::specs::Normal::links_of))]
+fn put_links_of(
+    config: &Config,
+    alloc: Global,
+    from: u16,
+    out: &mut Octets,
+) -> Result<(), OutOfMemory>
+    requires { from < length config.now.screens }
+    ensures { OnOk result (out.new ≡ out.old ++ spec.links_of config.now from) }
+{
+    let mut below = Octets::new(alloc);
+    put_sides(config, from, &mut below)?;
+    put_block(
+        config.name(ScreenNo(from)).as_slice(),
+        below.as_slice(),
+        out,
+    )
+}
 
-    fn put_links(&self, alloc: Global, out: &mut Octets) -> Result<(), OutOfMemory>
-        ensures { OnOk result (out.new ≡ out.old ++ spec.links_text self.now) }
-    {
-        for screen in 0..self.count() {
-            self.put_links_of(alloc, screen, out)?;
-        }
-        Ok(())
+fn put_links(config: &Config, alloc: Global, out: &mut Octets) -> Result<(), OutOfMemory>
+    ensures { OnOk result (out.new ≡ out.old ++ spec.links_text config.now) }
+{
+    for screen in 0..config.count() {
+        put_links_of(config, alloc, screen, out)?;
     }
+    Ok(())
+}
 
-    fn put_aliases_section(&self, alloc: Global, out: &mut Octets) -> Result<(), OutOfMemory>
-        ensures { OnOk result (out.new ≡ out.old ++ spec.section_of (codes "aliases") (spec.aliases_text self.now)) }
-    {
-        let mut below = Octets::new(alloc);
-        self.put_aliases(alloc, &mut below)?;
-        put_section(b"aliases", below.as_slice(), out)
-    }
+fn put_aliases_section(config: &Config, alloc: Global, out: &mut Octets) -> Result<(), OutOfMemory>
+    ensures { OnOk result (out.new ≡ out.old ++ spec.section_of (codes "aliases") (spec.aliases_text config.now)) }
+{
+    let mut below = Octets::new(alloc);
+    put_aliases(config, alloc, &mut below)?;
+    put_section(b"aliases", below.as_slice(), out)
+}
 
-    fn put_links_section(&self, alloc: Global, out: &mut Octets) -> Result<(), OutOfMemory>
-        ensures { OnOk result (out.new ≡ out.old ++ spec.section_of (codes "links") (spec.links_text self.now)) }
-    {
-        let mut below = Octets::new(alloc);
-        self.put_links(alloc, &mut below)?;
-        put_section(b"links", below.as_slice(), out)
-    }
+fn put_links_section(config: &Config, alloc: Global, out: &mut Octets) -> Result<(), OutOfMemory>
+    ensures { OnOk result (out.new ≡ out.old ++ spec.section_of (codes "links") (spec.links_text config.now)) }
+{
+    let mut below = Octets::new(alloc);
+    put_links(config, alloc, &mut below)?;
+    put_section(b"links", below.as_slice(), out)
+}
 
-    fn put_options_section(&self, alloc: Global, out: &mut Octets) -> Result<(), OutOfMemory>
-        ensures { OnOk result (out.new ≡ out.old ++ spec.section_of (codes "options") (spec.options_text self.now)) }
-    {
-        let mut below = Octets::new(alloc);
-        put_option_lines(b"\t", &self.settings, &mut below)?;
-        self.put_hotkeys(&mut below)?;
-        put_section(b"options", below.as_slice(), out)
-    }
+fn put_options_section(config: &Config, alloc: Global, out: &mut Octets) -> Result<(), OutOfMemory>
+    ensures { OnOk result (out.new ≡ out.old ++ spec.section_of (codes "options") (spec.options_text config.now)) }
+{
+    let mut below = Octets::new(alloc);
+    put_option_lines(b"\t", config.settings(), &mut below)?;
+    put_hotkeys(config, &mut below)?;
+    put_section(b"options", below.as_slice(), out)
 }
 
 /// Adds the normal form of a configuration. That text has fewer than 4,294,967,295 bytes, as `parse` wants;
@@ -263,9 +276,9 @@ pub fn print(alloc: Global, config: &Config, out: &mut Octets) -> Result<(), Out
     ensures err { OnErr result (out.new ≡ out.old) }
 {
     let mut text = Octets::new(alloc);
-    put_screens_section(alloc, config.screens.as_slice(), &mut text)?;
-    config.put_aliases_section(alloc, &mut text)?;
-    config.put_links_section(alloc, &mut text)?;
-    config.put_options_section(alloc, &mut text)?;
+    put_screens_section(alloc, config.screens(), &mut text)?;
+    put_aliases_section(config, alloc, &mut text)?;
+    put_links_section(config, alloc, &mut text)?;
+    put_options_section(config, alloc, &mut text)?;
     out.extend(text.as_slice())
 }

@@ -1,3 +1,4 @@
 pub mod KeyNames
 pub mod Rules
 pub mod Triggers
+pub mod WellFormed

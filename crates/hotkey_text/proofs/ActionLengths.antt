@@ -26,7 +26,7 @@ use Rattle.hotkey_text.specs.Chords.{class_word, has_class}
 use Rattle.hotkey_text.specs.LockModes.{lock_word}
 use Rattle.hotkey_text.specs.Names.{action_word}
 use Rattle.hotkey_text.specs.Printed.{key_text, mod_text, mods_text, key_chord_text, mouse_chord_text, call_text, trigger_text, action_text}
-use Rattle.hotkey_text.specs.Spelled.{is_mouse_button, are_mods, is_mouse_chord, is_trigger, is_action}
+use Rattle.hotkey_rules.specs.WellFormed.{is_mouse_button, are_mods, is_mouse_chord, is_trigger, is_action}
 use Rattle.hotkey_text.proofs.KeysAgain.{key_text_by}
 use Rattle.hotkey_text.proofs.WordsFound.{listed_passes, each_name, each_class, each_mode, each_side}
 

@@ -13,10 +13,9 @@ use Rattle.modifier_map.specs.declared.class.ModClass.{ModClass}
 use Rattle.modifier_map.specs.Table.{all_classes}
 use Rattle.text_lines.specs.declared.bytes.WordKind.TheVariants as kind
 use Rattle.text_lines.specs.Bytes.{takes}
-use Rattle.hotkey_text.specs.Keys.{is_modifier_key}
 use Rattle.hotkey_text.specs.Chords.{mask, class_word, has_class, key_chord_at, mouse_chord_at}
 use Rattle.hotkey_text.specs.Printed.{key_text, mod_text, mods_text, key_chord_text, mouse_chord_text}
-use Rattle.hotkey_text.specs.Spelled.{is_key, are_mods, is_mouse_button, is_key_chord, is_mouse_chord}
+use Rattle.hotkey_rules.specs.WellFormed.{is_key, are_mods, is_mouse_button, is_key_chord, is_mouse_chord, is_modifier_key}
 use Rattle.hotkey_text.specs.Again.{is_argument_byte}
 use Rattle.hotkey_text.specs.SpellingWords.{SpellsLast, SpellsMods, IsNone, AreApart, bits_of, SpellsKeyChord, SpellsMouseChord}
 use Rattle.hotkey_text.proofs.ArgumentBytes.{is_chord_byte, chord_argument, chord_taken, mods_bytes, key_chord, number_bytes}

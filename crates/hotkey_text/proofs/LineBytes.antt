@@ -15,7 +15,7 @@ use Rattle.hotkey_text.specs.declared.names.ActionName.TheVariants as name
 use Rattle.hotkey_text.specs.Names.{action_word}
 use Rattle.hotkey_text.specs.Shapes.{has_some}
 use Rattle.hotkey_text.specs.Printed.{key_chord_text, mouse_chord_text, call_text, trigger_text, action_text, between, with_commas, hotkey_text}
-use Rattle.hotkey_text.specs.Spelled.{is_trigger}
+use Rattle.hotkey_rules.specs.WellFormed.{is_trigger}
 use Rattle.hotkey_text.specs.Again.{is_argument_byte, is_spelled, texts_of}
 use Rattle.hotkey_text.proofs.ArgumentBytes.{argument_plain, argument_solid}
 use Rattle.hotkey_text.proofs.LinesAgain.{are_spelled}

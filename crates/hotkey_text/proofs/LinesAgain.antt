@@ -9,7 +9,7 @@ use Rattle.hotkey_rules.specs.declared.trigger.Trigger.{Trigger}
 use Rattle.hotkey_text.specs.Names.{trigger_word}
 use Rattle.hotkey_text.specs.Shapes.{ActionForm, HotkeyForm, has_some}
 use Rattle.hotkey_text.specs.Printed.{action_text, trigger_text, between, and_further, with_commas, hotkey_text}
-use Rattle.hotkey_text.specs.Spelled.{is_trigger}
+use Rattle.hotkey_rules.specs.WellFormed.{is_trigger}
 use Rattle.hotkey_text.specs.Spelling.{SpellsFurther, SpellsList, SpellsRelease, SpellsHotkey}
 use Rattle.hotkey_text.specs.Again.{is_spelled, HaveWordsOf, texts_of, ReadsAs}
 use Rattle.hotkey_text.proofs.HotkeyWords.{hotkey_taken}

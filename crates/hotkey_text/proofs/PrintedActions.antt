@@ -22,13 +22,12 @@ use Rattle.hotkey_text.specs.declared.names.ActionName.{ActionName}
 use Rattle.hotkey_text.specs.declared.names.ActionName.TheVariants as name
 use Rattle.hotkey_text.specs.declared.names.TriggerKind.{TriggerKind}
 use Rattle.hotkey_text.specs.declared.names.TriggerKind.TheVariants as trigger_kind
-use Rattle.hotkey_text.specs.Keys.{is_modifier_key}
 use Rattle.hotkey_text.specs.Names.{action_word, trigger_word}
 use Rattle.hotkey_text.specs.LockModes.{lock_word}
 use Rattle.hotkey_text.specs.Shapes.{ActionForm}
 use Rattle.hotkey_text.specs.Arguments.{ActionText, Key, Mouse, SwitchTo}
 use Rattle.hotkey_text.specs.Printed.{key_chord_text, mouse_chord_text, call_text, trigger_text, action_text}
-use Rattle.hotkey_text.specs.Spelled.{is_key_chord, is_mouse_chord, is_trigger}
+use Rattle.hotkey_rules.specs.WellFormed.{is_key_chord, is_mouse_chord, is_trigger, is_modifier_key}
 use Rattle.hotkey_text.specs.Again.{is_argument_byte, is_screen_word, is_spelled, words_of, HasWordsOf}
 use Rattle.hotkey_text.specs.Spelling.{SpellsBrackets, SpellsAction}
 use Rattle.hotkey_text.specs.SpellingWords.{SpellsLast, SpellsChord, SpellsArgument}

@@ -23,7 +23,8 @@ use Rattle.hotkey_text.specs.declared.chords.MouseChord.{MouseChord}
 use Rattle.hotkey_text.specs.declared.faults.HotkeyFault.{HotkeyFault}
 use Rattle.hotkey_text.specs.declared.faults.HotkeyKind.TheVariants as kind
 use Rattle.hotkey_text.specs.Faults.{or_fault}
-use Rattle.hotkey_text.specs.Keys.{key_named, is_modifier_key}
+use Rattle.hotkey_text.specs.Keys.{key_named}
+use Rattle.hotkey_rules.specs.WellFormed.{is_modifier_key}
 use Rattle.hotkey_text.specs.Chords.{mask, mods_at, closed_at, allowed, key_chord_at, button_of, mouse_chord_at}
 use Rattle.hotkey_text.specs.SpellingWords.{SpellsMods, SpellsLast, AreApart, bits_of, SpellsKeyChord, SpellsMouseChord}
 use Rattle.hotkey_text.proofs.ArgumentBytes.{is_chord_byte, chord_taken, number_bytes}

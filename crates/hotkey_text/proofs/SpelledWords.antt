@@ -16,11 +16,11 @@ use Rattle.hotkey_text.specs.declared.names.ActionName.{ActionName}
 use Rattle.hotkey_text.specs.declared.names.ActionName.TheVariants as name
 use Rattle.hotkey_text.specs.declared.names.TriggerKind.{TriggerKind}
 use Rattle.hotkey_text.specs.declared.names.TriggerKind.TheVariants as trigger_kind
-use Rattle.hotkey_text.specs.Keys.{is_plain, plain_key, key_id, four_digits, unless_zero, number_of_digits, coded_key, first_of, key_named, is_modifier_key}
+use Rattle.hotkey_text.specs.Keys.{is_plain, plain_key, key_id, four_digits, unless_zero, number_of_digits, coded_key, first_of, key_named}
 use Rattle.hotkey_text.specs.Chords.{mask}
 use Rattle.hotkey_text.specs.Arguments.{trigger_of, ActionText, Key, Mouse, Lock, SwitchTo, SwitchToward, action_of}
 use Rattle.hotkey_text.specs.Shapes.{ActionForm, HotkeyForm}
-use Rattle.hotkey_text.specs.Spelled.{are_mods, is_key, is_mouse_button, is_key_chord, is_mouse_chord, is_trigger}
+use Rattle.hotkey_rules.specs.WellFormed.{are_mods, is_key, is_mouse_button, is_key_chord, is_mouse_chord, is_trigger, is_modifier_key}
 use Rattle.hotkey_text.specs.SpellingWords.{AreApart, bits_of, SpellsKeyChord, SpellsMouseChord, SpellsChord, SpellsArgument}
 use Rattle.hotkey_text.proofs.ArgumentBytes.{each_byte, plain_below}
 use Rattle.hotkey_text.proofs.FreeClasses.{grown, AreNew, all_new, grown_small, new_adds, new_behind}

@@ -9,7 +9,7 @@ use Rattle.hotkey_text.specs.declared.names.Deed.TheVariants as deed
 use Rattle.hotkey_text.specs.Arguments.{ActionText, Key, Mouse, Lock, SwitchTo, SwitchToward, action_of, trigger_of}
 use Rattle.hotkey_text.specs.Printed.{action_text}
 use Rattle.hotkey_text.specs.Shapes.{ActionForm, HotkeyForm, is_hotkey, hotkey_at}
-use Rattle.hotkey_text.specs.Spelled.{is_action}
+use Rattle.hotkey_rules.specs.WellFormed.{is_action}
 
 -- it may stand in the word of a screen: printed ASCII other than blanks, # and )
 abbrev pub is_argument_byte : ℕ → Bool

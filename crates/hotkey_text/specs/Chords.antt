@@ -17,7 +17,8 @@ use Rattle.hotkey_text.specs.declared.faults.HotkeyKind.TheVariants as kind
 use Rattle.hotkey_text.specs.declared.chords.KeyChord.{KeyChord}
 use Rattle.hotkey_text.specs.declared.chords.MouseChord.{MouseChord}
 use Rattle.hotkey_text.specs.Faults.{unless, or_fault}
-use Rattle.hotkey_text.specs.Keys.{key_named, is_modifier_key}
+use Rattle.hotkey_text.specs.Keys.{key_named}
+use Rattle.hotkey_rules.specs.WellFormed.{is_modifier_key}
 
 abbrev pub mask : ℕ → Mask
 mask n = record { 0 = n }

@@ -2,7 +2,6 @@
 use Rattle.std.specs.Prelude.{ℕ, ◌+◌, ◌*◌, Bool, not, ◌==◌, ◌&&◌, ◌||◌, nat_le, if◌then◌else◌, List, [], ◌∷◌, Option, Some, None}
 use Rattle.std.specs.Char.{is_ascii_hexdigit, digit_value}
 use Rattle.share_base.specs.declared.numbers.KeyId.{KeyId}
-use Rattle.modifier_map.specs.Table.{key_bit}
 use Rattle.hotkey_rules.specs.KeyNames.{key_of_name}
 
 abbrev pub key_id : ℕ → KeyId
@@ -42,7 +41,3 @@ first_of None other = other
 -- the key that a word spells
 unfoldable pub key_named : List ℕ → Option KeyId
 key_named word = first_of (key_of_name word) (first_of (plain_key word) (coded_key word))
-
--- a key of one of the classes of modifiers
-abbrev pub is_modifier_key : KeyId → Bool
-is_modifier_key id = not (key_bit id.0 == 0)

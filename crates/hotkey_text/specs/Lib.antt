@@ -11,6 +11,5 @@ pub mod Names
 pub mod Printed
 pub mod Seen
 pub mod Shapes
-pub mod Spelled
 pub mod Spelling
 pub mod SpellingWords

@@ -21,7 +21,8 @@ use Rattle.hotkey_text.specs.declared.names.TriggerKind.{TriggerKind}
 use Rattle.hotkey_text.specs.declared.names.TriggerKind.TheVariants as trigger_kind
 use Rattle.hotkey_text.specs.Names.{action_word}
 use Rattle.hotkey_text.specs.LockModes.{lock_word}
-use Rattle.hotkey_text.specs.Keys.{key_named, is_modifier_key}
+use Rattle.hotkey_text.specs.Keys.{key_named}
+use Rattle.hotkey_rules.specs.WellFormed.{is_modifier_key}
 use Rattle.hotkey_text.specs.Chords.{mask, class_word}
 use Rattle.hotkey_text.specs.Shapes.{ActionForm, HotkeyForm, has_some}
 use Rattle.hotkey_text.specs.Arguments.{ScreenText, ActionText, Key, Mouse, Lock, SwitchTo, SwitchToward}

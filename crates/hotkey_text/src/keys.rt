@@ -2,6 +2,7 @@
 
 ghost use Rattle.std.specs.Prelude.{◌≡◌, ◌<◌, true};
 ghost use Rattle.std.specs.Char.{is_ascii_hexdigit, digit_value};
+ghost use Rattle.hotkey_rules.specs.WellFormed as well_formed;
 ghost use Rattle.hotkey_text.specs.Keys as spec;
 ghost use Rattle.hotkey_text.specs.Keys.{four_digits};
 
@@ -90,7 +91,7 @@ pub(crate) fn key_named(word: &[u8]) -> Option<KeyId>
 
 /// Whether it is a key of one of the classes of modifiers.
 pub(crate) fn is_modifier_key(id: KeyId) -> bool
-    ensures { result ≡ spec.is_modifier_key id }
+    ensures { result ≡ well_formed.is_modifier_key id }
 {
     key_bit(id) != 0
 }

@@ -11,10 +11,10 @@ ghost use Rattle.hotkey_text.specs.declared.names.ActionName.{ActionName as Name
 ghost use Rattle.hotkey_text.specs.Names.{action_word, action_named};
 ghost use Rattle.hotkey_text.specs.LockModes.{lock_word, lock_named};
 ghost use Rattle.share_base.specs.Sides.{side_text, side_named};
-ghost use Rattle.hotkey_text.specs.Keys.{key_named, is_modifier_key};
+ghost use Rattle.hotkey_text.specs.Keys.{key_named};
 ghost use Rattle.hotkey_text.specs.Chords.{class_word, class_named, key_chord_at, mouse_chord_at};
 ghost use Rattle.hotkey_text.specs.Printed.{key_text, key_chord_text, mouse_chord_text, trigger_text, hotkey_text};
-ghost use Rattle.hotkey_text.specs.Spelled.{is_key_chord, is_mouse_chord, is_trigger};
+ghost use Rattle.hotkey_rules.specs.WellFormed.{is_key_chord, is_mouse_chord, is_trigger, is_modifier_key};
 ghost use Rattle.hotkey_text.specs.Again.{is_spelled, texts_of, ReadsAs};
 ghost use Rattle.hotkey_rules.specs.declared.action.Action.{Action as OneAction};
 ghost use Rattle.hotkey_rules.specs.declared.trigger.Trigger.{Trigger as OneTrigger};

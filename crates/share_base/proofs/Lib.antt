@@ -7,3 +7,4 @@ pub mod ListTests
 pub mod NameBytes
 pub mod SameNames
 pub mod SideWords
+pub mod SameSides

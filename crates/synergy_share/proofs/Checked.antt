@@ -3,7 +3,7 @@ use Rattle.std.proofs.Common.{◌≡◌, ℕ, zero, suc, ◌<◌, ◌≤◌, Lis
 use Rattle.share_base.specs.Told.{after}
 use Rattle.config_text.specs.declared.faults.ConfigKind.{ConfigKind}
 use Rattle.config_text.specs.declared.faults.ConfigRefusal.{ConfigRefusal}
-use Rattle.config_text.specs.Configurations.{Configuration}
+use Rattle.screen_config.specs.Configurations.{Configuration}
 use Rattle.config_text.specs.Accepting.{Accepts, Refuses}
 use Rattle.config_text.specs.Lines.{reading, refused}
 use Rattle.config_text.specs.Normal.{normal}

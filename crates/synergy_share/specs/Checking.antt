@@ -5,7 +5,7 @@ use Rattle.share_base.specs.Counts.{one_more, Rises}
 use Rattle.share_base.specs.Writing.{TakesFront}
 use Rattle.config_text.specs.declared.faults.ConfigKind.TheVariants as kinds
 use Rattle.config_text.specs.declared.faults.ConfigRefusal.{ConfigRefusal}
-use Rattle.config_text.specs.Configurations.{Configuration}
+use Rattle.screen_config.specs.Configurations.{Configuration}
 use Rattle.config_text.specs.Accepting.{Accepts, Refuses}
 use Rattle.config_text.specs.Lines.{refused}
 use Rattle.config_text.specs.Normal.{normal}

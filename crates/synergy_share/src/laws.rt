@@ -3,7 +3,7 @@
 ghost use Rattle.std.specs.Prelude.{◌≡◌, ◌<◌, ◌≤◌, Bool, List, Option, Some, length, take, ℕ};
 ghost use Rattle.share_base.specs.Told.{after};
 ghost use Rattle.config_text.specs.declared.faults.ConfigRefusal.{ConfigRefusal};
-ghost use Rattle.config_text.specs.Configurations.{Configuration};
+ghost use Rattle.screen_config.specs.Configurations.{Configuration};
 ghost use Rattle.config_text.specs.Accepting.{Accepts, Refuses};
 ghost use Rattle.config_text.specs.Normal.{normal};
 ghost use Rattle.message_codec.specs.declared.messages.Msg.{Msg};

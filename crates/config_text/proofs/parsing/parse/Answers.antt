@@ -3,7 +3,7 @@ use Rattle.std.specs.Prelude.{IfOk, IfErr}
 use Rattle.config_text.specs.declared.faults.ConfigRefusal.{ConfigRefusal}
 use Rattle.config_text.specs.declared.faults.ConfigFault.{ConfigFault}
 use Rattle.config_text.specs.declared.faults.ConfigFault.TheVariants as fault
-use Rattle.config_text.specs.Configurations.{Configuration}
+use Rattle.screen_config.specs.Configurations.{Configuration}
 use Rattle.config_text.specs.Lines.{reading}
 use Rattle.config_text.specs.Answering.{Answers, RefusesBy}
 use Rattle.config_text.specs.Accepting.{Accepts}

@@ -8,7 +8,7 @@ use Rattle.text_lines.specs.Lines.{trimmed}
 use Rattle.text_lines.proofs.WholeLines.{word_is_whole}
 use Rattle.config_text.specs.Judging.{formed}
 use Rattle.config_text.specs.Shapes.{alias_at}
-use Rattle.config_text.specs.Sound.{is_end}
+use Rattle.screen_config.specs.Sound.{is_end}
 use Rattle.config_text.proofs.drafts.Draft.alias_line.Goals as goal
 
 read_so : (r : Result Word ℕ) (bytes : List ℕ) (name : Word) → formed r ≡ Ok name → Gives word_text r (alias_at bytes) → alias_at bytes ≡ Ok (word_text name)

@@ -1,6 +1,0 @@
-use Rattle.std.proofs.Common.{◌≡◌, map, take}
-use Rattle.config_text.specs.ActionKeys.{with_button}
-use Rattle.config_text.proofs.action_keys.numbered.Given as goal
-
-abbrev pub invariant-loop-action : goal.invariant-loop-action
-invariant-loop-action l = l.given ≡ map (with_button l.keys) (take l.action-index l.actions)

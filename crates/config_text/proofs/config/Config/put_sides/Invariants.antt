@@ -1,8 +1,0 @@
-use Rattle.std.proofs.Common.{◌≡◌, ◌++◌, drop}
-use Rattle.std.specs.List.{flat_map}
-use Rattle.config_text.specs.Normal.{side_links}
-use Rattle.share_base.specs.Sides.{sides}
-use Rattle.config_text.proofs.config.Config.put_sides.Given as goal
-
-abbrev pub invariant-loop-side : goal.invariant-loop-side
-invariant-loop-side l = l.out ++ flat_map (side_links l.self l.from) (drop l.side-index sides) ≡ l.fn.out ++ flat_map (side_links l.self l.from) sides

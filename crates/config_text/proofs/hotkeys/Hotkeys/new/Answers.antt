@@ -1,5 +1,0 @@
-use Rattle.config_text.proofs.SoundHotkeys.{none_counted}
-use Rattle.config_text.proofs.hotkeys.Hotkeys.new.Goals as goal
-
-pub invariant_of-result : goal.invariant_of-result
-invariant_of-result c = rw (c.new.ensures, c.new-2.ensures.items) none_counted

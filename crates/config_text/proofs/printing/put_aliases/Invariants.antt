@@ -1,0 +1,8 @@
+use Rattle.std.proofs.Common.{◌≡◌, ◌++◌, drop}
+use Rattle.std.specs.List.{flat_map}
+use Rattle.config_text.specs.Normal.{aliases_of, aliases_text}
+use Rattle.screen_config.specs.Values.{numbers_of}
+use Rattle.config_text.proofs.printing.put_aliases.Given as goal
+
+abbrev pub invariant-loop-screen : goal.invariant-loop-screen
+invariant-loop-screen l = l.out ++ flat_map (aliases_of l.config) (drop l.screen (numbers_of l.config)) ≡ l.fn.out ++ aliases_text l.config

@@ -1,0 +1,118 @@
+//! A connection whose screen can be entered.
+
+ghost use Rattle.std.specs.Prelude.{◌≡◌, ◌<◌};
+ghost use Rattle.std.specs.Borrow.{sem};
+ghost use Rattle.share_base.specs.Shapes.{IsScreenShape};
+ghost use Rattle.hello_states.specs.Phases.{Joined as in_joined};
+ghost use Rattle.hello_states.specs.Kept.{joined_phase, parting_phase};
+ghost use Rattle.hello_states.specs.Handshake.{parting_for, joined_after_info};
+ghost use Rattle.hello_states.specs.Informing.{shape_in, phase_informed, serial_informed};
+ghost use Rattle.hello_states.specs.Lending.{LendsAlive};
+
+use crate::asked::Informed;
+use crate::info_fields::InfoFields;
+use crate::part_cause::PartCause;
+use crate::parting::Parting;
+use keepalive_clock::Alive;
+use share_base::{ScreenNo, Shape};
+use std::marker::Model;
+
+/// A connection that told the shape of its screen, with its keep-alive.
+#[derive(Debug, Drop)]
+pub struct Joined {
+    serial: u64,
+    screen: ScreenNo,
+    shape: Shape,
+    alive: Alive,
+}
+
+impl Model for Joined {
+    ghost use Rattle.std.specs.Prelude.{◌<◌};
+    ghost use Rattle.share_base.specs.Shapes.{IsScreenShape};
+    ghost use Rattle.hello_states.specs.Kept.{JoinedParts};
+
+    ghost Value = { JoinedParts };
+
+    ghost view = { λ j. record {
+      serial = j.serial;
+      joined = record { screen = j.screen.0; shape = j.shape; alive = j.alive };
+    } };
+
+    ghost invariant = { λ j. (j.screen.0 < 64) × IsScreenShape j.shape };
+}
+
+impl Joined {
+    pub(crate) fn new(serial: u64, screen: ScreenNo, shape: Shape, alive: Alive) -> Joined
+        requires screen { screen.0 < 64 }
+        requires shape { IsScreenShape shape }
+        ensures phase { joined_phase result ≡ in_joined (record { screen = screen.0; shape = shape; alive = alive }) }
+        ensures serial { result.serial ≡ serial }
+    {
+        Joined {
+            serial,
+            screen,
+            shape,
+            alive,
+        }
+    }
+
+    /// Takes a further information of the screen, which counts as heard. The connection has that shape
+    /// from now on; or it parts, for a shape that no screen has.
+    pub fn info(self, info: &InfoFields, now: u64) -> Informed
+        ensures phase { phase_informed result ≡ joined_after_info (shape_in info.now) now self.joined }
+        ensures serial { serial_informed result ≡ self.serial }
+    {
+        let Some(shape) = info.shape() else {
+            return Informed::Parting(self.part(PartCause::Size, now));
+        };
+        let mut alive = self.alive;
+        alive.heard(now);
+        Informed::Joined(Joined::new(self.serial, self.screen, shape, alive))
+    }
+
+    /// Parts the connection for that cause at that moment.
+    pub fn part(self, cause: PartCause, now: u64) -> Parting
+        ensures phase { parting_phase result ≡ parting_for cause now }
+        ensures serial { result.serial ≡ self.serial }
+    {
+        Parting::new(self.serial, cause, now)
+    }
+
+    /// Returns the serial of the connection.
+    pub fn serial(&self) -> u64
+        ensures { result ≡ self.now.serial }
+    {
+        self.serial
+    }
+
+    /// Returns the screen that is joined, a number below 64.
+    pub fn screen(&self) -> ScreenNo
+        ensures value { result.0 ≡ self.now.joined.screen }
+        ensures bound { result.0 < 64 }
+    {
+        self.screen
+    }
+
+    /// Returns the shape of the screen.
+    pub fn shape(&self) -> Shape
+        ensures value { result ≡ self.now.joined.shape }
+        ensures screen { IsScreenShape result }
+    {
+        self.shape
+    }
+
+    /// Returns the keep-alive of the connection.
+    pub fn alive(&self) -> &Alive
+        ensures { result.now ≡ self.now.joined.alive }
+    {
+        &self.alive
+    }
+
+    /// Lends the keep-alive of the connection for change.
+    pub fn alive_mut(&mut self) -> &mut Alive
+        ensures value { result.now ≡ self.old.joined.alive }
+        ensures* writes_back { sem 𝓛 (LendsAlive self.entry result) }
+    {
+        &mut self.alive
+    }
+}
