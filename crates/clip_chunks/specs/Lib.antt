@@ -1,0 +1,6 @@
+pub mod Parts
+pub mod Sending
+pub mod Wholes
+pub mod OpenRuns
+pub mod Clips
+pub mod Rules
