@@ -127,7 +127,7 @@ def main():
         ("nothing", ""),
         ("64 KiB", of_size(SMALL)),
         ("1 MiB", of_size(LARGE)),
-        ("all screens and links", full()),
+        ("1,024 links, 256 aliases", full()),
         ("all hotkeys", full_of_hotkeys()),
     ]:
         run, taken[title] = checked(text)

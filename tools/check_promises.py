@@ -1,4 +1,4 @@
-"""Fails where docs/promises.md names a function or a clause that the source does not have.
+"""Fails if docs/promises.md names a function or a clause that the source does not have.
 
 A promise names what carries it as `crate::function` (`clause`, `clause`), or as
 `crate::Type::function` for a method. A function with one clause that has no name stands alone.
@@ -32,7 +32,8 @@ def enclosing(before, owner):
     return bool(heads) and re.search(rf"\b{re.escape(owner)}\b", heads[-1]) is not None
 
 
-def main():
+def run():
+    """Looks up each function and clause. Returns how many passed and failed."""
     document = (TOP / "docs" / "promises.md").read_text(encoding="utf-8")
     passed, missing = 0, []
     for whole, clauses in NAMED.findall(document):
@@ -50,8 +51,9 @@ def main():
     for line in missing:
         print(f"docs/promises.md: {line}")
     print(f"promises: {passed} passed, {len(missing)} failed")
-    return 1 if missing or passed == 0 else 0
+    return passed, len(missing)
 
 
 if __name__ == "__main__":
-    sys.exit(main())
+    passed, failed = run()
+    sys.exit(1 if failed or not passed else 0)

@@ -70,11 +70,12 @@ shows-options old new words sets lines s front h = record {
   printed = more_printed front old.lines.items new.lines.items (flat_map line_of (option_lines words)) s.lines (option_lines words) h.printed lines refl;
 }
 
-pub shows-applied : (old new : Printer) (m : Msg) (bytes : List ℕ) → Prints old.injector new.injector (Applies m) bytes → new.lines.items ≡ old.lines.items ++ bytes → (s : Screen) (front : List ℕ) → Shows old s front → Shows new (after s (Applies m)) front
-shows-applied old new m bytes prints lines s front h = record {
-  stands = prints.stands s h.stands;
-  printed = more_printed front old.lines.items new.lines.items bytes s.lines (lines_of s (Applies m)) h.printed lines (prints.gives s h.stands);
-}
+pub shows-applied : (old new : Printer) (m : Msg) (before : List ℕ) → before ≡ old.lines.items → Prints old.injector new.injector (Applies m) before new.lines.items → (s : Screen) (front : List ℕ) → Shows old s front → Shows new (after s (Applies m)) front
+shows-applied old new m before same prints s front h =
+    let added : List ℕ = flat_map line_of (lines_of s (Applies m)) in record {
+      stands = prints.stands s h.stands;
+      printed = more_printed front old.lines.items new.lines.items added s.lines (lines_of s (Applies m)) h.printed (prints.gives s h.stands ∙ ap (λ (t : List ℕ). t ++ added) same) refl;
+    }
 
 pub shows-same : (old new : Printer) → new.injector ≡ old.injector → new.lines.items ≡ old.lines.items → (s : Screen) (front : List ℕ) → Shows old s front → Shows new s front
 shows-same old new same lines s front h = record {
@@ -88,7 +89,7 @@ shows-cleared old new same none s front h = record {
   printed = ap (λ (t : List ℕ). (front ++ old.lines.items) ++ t) none ∙ append-nil (front ++ old.lines.items) ∙ h.printed;
 }
 
-pub shows-released : (old : Printer) (new : Injector) (bytes : List ℕ) → Prints old.injector new ReleasesAll bytes → (s : Screen) (front : List ℕ) → Shows old s front → Releases s ((front ++ old.lines.items) ++ bytes)
+pub shows-released : (old : Printer) (new : Injector) (bytes : List ℕ) → Prints old.injector new ReleasesAll [] bytes → (s : Screen) (front : List ℕ) → Shows old s front → Releases s ((front ++ old.lines.items) ++ bytes)
 shows-released old new bytes prints s front h =
     ap (λ (t : List ℕ). t ++ bytes) h.printed
     ∙ ap (λ (t : List ℕ). flat_map line_of s.lines ++ t) (prints.gives s h.stands)

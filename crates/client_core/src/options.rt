@@ -6,7 +6,7 @@ ghost use Rattle.held_inputs.specs.Line.{line_of, room_of};
 ghost use Rattle.client_core.specs.Hearing.{pairs, option_lines, SetsAll};
 
 use held_inputs::{Injector, Line, put_line};
-use share_base::{Lines, OutOfMemory};
+use share_base::{OutOfMemory, ShortLine};
 
 /// The first option, and the numbers after it; `None` where there are fewer than two.
 fn first_option(words: &[u32]) -> Option<(u32, u32, &[u32])>
@@ -20,11 +20,11 @@ fn first_option(words: &[u32]) -> Option<(u32, u32, &[u32])>
 
 /// Adds one line. After `OutOfMemory` there is none more.
 pub fn add_line(lines: &mut Vec<u8>, line: Line) -> Result<(), OutOfMemory>
-    requires { room_of line ≤ 16384 }
+    requires { room_of line ≤ 64 }
     ensures ok { OnOk result (lines.new.items ≡ lines.old.items ++ line_of line) }
     ensures err { OnErr result (lines.new.items ≡ lines.old.items) }
 {
-    let mut text = Lines::new();
+    let mut text = ShortLine::new();
     put_line(&mut text, line);
     lines.extend_from_slice(text.as_slice())?;
     Ok(())

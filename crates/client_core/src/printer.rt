@@ -1,6 +1,6 @@
 //! The lines that a client's screen prints of messages.
 
-ghost use Rattle.std.specs.Prelude.{◌≡◌, ◌≤◌, ◌+◌, ◌++◌, [], List, ℕ, OnOk, OnErr, length, vec_len, vec_capacity};
+ghost use Rattle.std.specs.Prelude.{◌≡◌, ◌≤◌, ◌+◌, ◌++◌, [], List, ℕ, OnOk, OnErr, length};
 ghost use Rattle.message_codec.specs.declared.messages.Msg.TheVariants as message;
 ghost use Rattle.held_inputs.specs.Screen.{Screen, Applies, after};
 ghost use Rattle.client_core.specs.Hearing.{heard, fresh};
@@ -78,8 +78,7 @@ impl Printer {
         ensures err { OnErr result ((s : Screen) (front : List ℕ) → Shows self.old s front → Shows self.new s front) }
     {
         self.lines.reserve(ROOM)?;
-        let printed = self.injector.apply(msg);
-        add_within(&mut self.lines, &printed);
+        self.injector.apply_to(msg, &mut self.lines);
         Ok(())
     }
 
@@ -105,16 +104,5 @@ impl Printer {
         ensures bound { length result ≤ 13824 }
     {
         self.injector.release_all()
-    }
-}
-
-// Adds lines, for which there is room.
-fn add_within(lines: &mut Vec<u8>, more: &Lines)
-    requires { vec_len lines.old + 16384 ≤ vec_capacity lines.old }
-    ensures { lines.new.items ≡ lines.old.items ++ more.now }
-{
-    match lines.extend_from_slice(more.as_slice()) {
-        Ok(()) => {}
-        Err(_) => unreachable!(),
     }
 }

@@ -1,0 +1,13 @@
+pub mod Sizes
+pub mod Runs
+pub mod EndedRuns
+pub mod Answered
+pub mod Cuts
+pub mod PartFrames
+pub mod ClipFrames
+pub mod Screens
+pub mod BookCalls
+pub mod Origins
+pub mod OneWhole
+pub mod Full
+pub mod WholesGrow

@@ -2,5 +2,9 @@ pub mod Parts
 pub mod Sending
 pub mod Wholes
 pub mod OpenRuns
+pub mod Assemblies
 pub mod Clips
 pub mod Rules
+pub mod Calls
+pub mod Books
+pub mod Origins

@@ -1,10 +1,11 @@
 -- The whole that a part ends, by the run of parts that was open before it.
-use Rattle.std.specs.Prelude.{ℕ, ◌+◌, ◌&&◌, ◌==◌, nat_le, List, [], ◌∷◌, ◌++◌, length, Option, Some, None, if◌then◌else◌}
+use Rattle.std.specs.Prelude.{ℕ, ◌+◌, ◌&&◌, ◌==◌, nat_le, List, [], ◌∷◌, ◌++◌, length, reverse, Option, Some, None, if◌then◌else◌}
 use Rattle.share_base.specs.declared.clip_id.ClipId.{ClipId}
 use Rattle.message_codec.specs.declared.clip_mark.ClipMark.{ClipMark}
 use Rattle.message_codec.specs.declared.clip_mark.ClipMark.TheVariants as mark
+use Rattle.message_codec.specs.declared.messages.Msg.{Msg}
 use Rattle.clip_chunks.specs.declared.run.Run.{Run}
-use Rattle.clip_chunks.specs.Parts.{Part, of_clip}
+use Rattle.clip_chunks.specs.Parts.{Part, of_clip, parts_among}
 use Rattle.clip_chunks.specs.Wholes.{size_of}
 
 -- what a start opens
@@ -58,3 +59,12 @@ whole_of p (Some bytes) = record { clip = p.clip; seq = p.seq; bytes = bytes } �
 abbrev pub wholes : ℕ → List Part → List Whole
 wholes limit [] = []
 wholes limit (p ∷ older) = wholes limit older ++ whole_of p (whole_at limit p older)
+
+-- the whole that one more part brings, if it is a part
+abbrev pub brought : ℕ → Option Part → List Part → List Whole
+brought limit None older = []
+brought limit (Some p) older = whole_of p (whole_at limit p older)
+
+-- those among messages, which stand the oldest first
+abbrev pub wholes_among : ℕ → List Msg → List Whole
+wholes_among limit messages = wholes limit (reverse (parts_among messages))

@@ -31,7 +31,7 @@ unknown owner seq = record { owner = owner; seq = seq; bytes = None; dirty = [] 
 
 abbrev pub dirtied : ℕ → Option (List ℕ) → Clip → Clip
 dirtied screen None c = c
-dirtied screen (Some bytes) c = record c { dirty = screen ∷ without c.dirty screen }
+dirtied screen (Some bytes) c = record c { dirty = screen ∷ c.dirty }
 
 -- a screen that joins is dirty where the bytes are known
 abbrev pub joined : ℕ → Clip → Clip

@@ -7,7 +7,21 @@
 //! screen does with a clipboard.
 #![tactic(auto)]
 
+mod assembly;
+mod book;
+mod kept;
+mod laws;
 mod run;
+mod sending;
+mod size;
+#[cfg(test)]
+mod tests;
 mod took;
 
+pub use assembly::Assembly;
+pub use book::ClipBook;
+pub use laws::{
+    chunks_are_full, known_were_brought, other_parts_pass, whole_where_found, wholes_grow,
+};
+pub use sending::frames_of;
 pub use took::{Cause, Took};

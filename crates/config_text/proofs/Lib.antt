@@ -16,6 +16,7 @@ pub mod KeysAgain
 pub mod KnownAgain
 pub mod LineNumbers
 pub mod LineRuns
+pub mod LinkTables
 pub mod LinksAgain
 pub mod NameLengths
 pub mod NamesAgain

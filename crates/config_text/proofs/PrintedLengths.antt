@@ -28,7 +28,8 @@ use Rattle.hotkey_text.proofs.ActionLengths.{side_short}
 use Rattle.config_text.proofs.FlatMapLengths.{short_within, each_within}
 use Rattle.config_text.proofs.HotkeyLengths.{hotkeys_short}
 use Rattle.config_text.proofs.KnownAgain.{names_of, sound_names}
-use Rattle.config_text.proofs.NameLengths.{is_name_short, name_short}
+use Rattle.share_base.proofs.NameBytes.{is_name_short}
+use Rattle.config_text.proofs.NameLengths.{name_short}
 use Rattle.config_text.proofs.Numbers.{count_of_numbers, count_of_hundredths}
 use Rattle.config_text.proofs.OptionLengths.{option_lines_short}
 

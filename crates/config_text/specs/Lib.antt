@@ -8,6 +8,7 @@ pub mod Hotkeys
 pub mod Judging
 pub mod Kinds
 pub mod Lines
+pub mod LinkTables
 pub mod Normal
 pub mod PrintedAgain
 pub mod Sections

@@ -19,6 +19,7 @@ mod hotkey_printing;
 mod hotkey_tests;
 mod judging;
 mod laws;
+mod link_table;
 mod parsing;
 mod printing;
 mod sections;

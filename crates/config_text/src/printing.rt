@@ -1,16 +1,17 @@
 //! The normal form of a configuration.
 
 ghost use Rattle.std.specs.Prelude.{◌≡◌, ◌<◌, ◌≤◌, ◌++◌, ◌∷◌, ◌^◌, ◌-◌, [], length, IfSome, OnOk, OnErr, slice_get, if◌then◌else◌, ◌==◌, ◌&&◌, codes};
-ghost use Rattle.std.specs.Option.{option_copied};
-ghost use Rattle.std.specs.List.{find, flat_map};
+ghost use Rattle.std.specs.List.{flat_map};
 ghost use Rattle.text_lines.specs.Reading.{is_empty};
 ghost use Rattle.share_base.specs.Sides.{sides};
+ghost use Rattle.config_text.specs.LinkTables.{IsTableFor};
 ghost use Rattle.config_text.specs.Normal as spec;
 ghost use Rattle.config_text.specs.Normal.{normal};
 ghost use Rattle.config_text.specs.PrintedAgain.{SpellsAgain};
-ghost use Rattle.screen_config.specs.Values.{begins_at, name_of};
+ghost use Rattle.screen_config.specs.Values.{name_of};
 
 use crate::hotkey_printing::put_hotkeys;
+use crate::link_table::{cell_of, link_table};
 use option_table::{put_number, put_option_lines};
 use screen_config::{Alias, Config, Screen};
 use screen_links::{Link, Range};
@@ -115,18 +116,6 @@ fn put_range(range: Range, out: &mut Octets) -> Result<(), OutOfMemory>
     out.extend(b")")
 }
 
-fn is_link_at(link: &Link, from: u16, side: Side, a: u8) -> bool
-    ensures { result ≡ begins_at from side a link.now }
-{
-    link.from.0 == from && link.side == side && link.range.a == a
-}
-
-fn find_link(links: &[Link], from: u16, side: Side, a: u8) -> Option<&Link>
-    ensures { option_copied result ≡ find (begins_at from side a) links.now }
-{
-    links.iter().find(|link| is_link_at(link, from, side, a))
-}
-
 #[tactic(auto, unfolding(crate::specs::Normal::aliases_of))]
 fn put_aliases_of(
     config: &Config,
@@ -181,34 +170,53 @@ fn put_link(config: &Config, link: &Link, out: &mut Octets) -> Result<(), OutOfM
 #[tactic(auto, unfolding(crate::specs::Normal::link_at))]
 fn put_link_at(
     config: &Config,
+    table: &[Option<Link>],
     from: u16,
     side: Side,
     a: u8,
     out: &mut Octets,
 ) -> Result<(), OutOfMemory>
+    requires table { IsTableFor config.now table.now }
+    requires known { from < length config.now.screens }
+    requires on_side { a < 100 }
     ensures { OnOk result (out.new ≡ out.old ++ spec.link_at config.now from side a) }
 {
-    match find_link(config.links().as_slice(), from, side, a) {
-        Some(link) => put_link(config, link, out),
+    match table[cell_of(from, side, a)] {
+        Some(link) => put_link(config, &link, out),
         None => Ok(()),
     }
 }
 
 #[tactic(auto, unfolding(crate::specs::Normal::side_links))]
-fn put_side(config: &Config, from: u16, side: Side, out: &mut Octets) -> Result<(), OutOfMemory>
+fn put_side(
+    config: &Config,
+    table: &[Option<Link>],
+    from: u16,
+    side: Side,
+    out: &mut Octets,
+) -> Result<(), OutOfMemory>
+    requires table { IsTableFor config.now table.now }
+    requires known { from < length config.now.screens }
     ensures { OnOk result (out.new ≡ out.old ++ spec.side_links config.now from side) }
 {
     for a in 0..100 {
-        put_link_at(config, from, side, a, out)?;
+        put_link_at(config, table, from, side, a, out)?;
     }
     Ok(())
 }
 
-fn put_sides(config: &Config, from: u16, out: &mut Octets) -> Result<(), OutOfMemory>
+fn put_sides(
+    config: &Config,
+    table: &[Option<Link>],
+    from: u16,
+    out: &mut Octets,
+) -> Result<(), OutOfMemory>
+    requires table { IsTableFor config.now table.now }
+    requires known { from < length config.now.screens }
     ensures { OnOk result (out.new ≡ out.old ++ flat_map (spec.side_links config.now from) sides) }
 {
     for side in SIDES {
-        put_side(config, from, side, out)?;
+        put_side(config, table, from, side, out)?;
     }
     Ok(())
 }
@@ -216,15 +224,17 @@ fn put_sides(config: &Config, from: u16, out: &mut Octets) -> Result<(), OutOfMe
 #[tactic(auto, unfolding(crate::specs::Normal::links_of))]
 fn put_links_of(
     config: &Config,
+    table: &[Option<Link>],
     alloc: Global,
     from: u16,
     out: &mut Octets,
 ) -> Result<(), OutOfMemory>
-    requires { from < length config.now.screens }
+    requires table { IsTableFor config.now table.now }
+    requires known { from < length config.now.screens }
     ensures { OnOk result (out.new ≡ out.old ++ spec.links_of config.now from) }
 {
     let mut below = Octets::new(alloc);
-    put_sides(config, from, &mut below)?;
+    put_sides(config, table, from, &mut below)?;
     put_block(
         config.name(ScreenNo(from)).as_slice(),
         below.as_slice(),
@@ -232,11 +242,17 @@ fn put_links_of(
     )
 }
 
-fn put_links(config: &Config, alloc: Global, out: &mut Octets) -> Result<(), OutOfMemory>
+fn put_links(
+    config: &Config,
+    table: &[Option<Link>],
+    alloc: Global,
+    out: &mut Octets,
+) -> Result<(), OutOfMemory>
+    requires { IsTableFor config.now table.now }
     ensures { OnOk result (out.new ≡ out.old ++ spec.links_text config.now) }
 {
     for screen in 0..config.count() {
-        put_links_of(config, alloc, screen, out)?;
+        put_links_of(config, table, alloc, screen, out)?;
     }
     Ok(())
 }
@@ -252,8 +268,9 @@ fn put_aliases_section(config: &Config, alloc: Global, out: &mut Octets) -> Resu
 fn put_links_section(config: &Config, alloc: Global, out: &mut Octets) -> Result<(), OutOfMemory>
     ensures { OnOk result (out.new ≡ out.old ++ spec.section_of (codes "links") (spec.links_text config.now)) }
 {
+    let table = link_table(alloc, config.links().as_slice(), config.count())?;
     let mut below = Octets::new(alloc);
-    put_links(config, alloc, &mut below)?;
+    put_links(config, table.as_slice(), alloc, &mut below)?;
     put_section(b"links", below.as_slice(), out)
 }
 

@@ -1,3 +1,3 @@
-pub mod Passed
-pub mod Counted
-pub mod PassedAnswers
+pub mod Edges
+pub mod Pixels
+pub mod PassedEdges

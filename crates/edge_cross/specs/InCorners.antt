@@ -1,4 +1,4 @@
--- Corners of a screen, and the pixels of a side that lie in them.
+-- The corners of a screen, and the pixels of a side that lie in them.
 use Rattle.std.specs.Prelude.{ℕ, ◌+◌, ◌<◌, ◌≤◌, ◌≢◌, ◌⊎◌, bit_and}
 use Rattle.share_base.specs.declared.shape.Side.{Side}
 use Rattle.share_base.specs.declared.shape.Side.TheVariants.{Left, Right, Up, Down}
@@ -21,7 +21,7 @@ far_corner Down = 8
 abbrev pub Lists : Corners → ℕ → Type 0
 Lists corners corner = bit_and corners.set corner ≢ 0
 
--- corners have a size, and the pixel lies in the near or in the far one, which is listed
+-- the corners have a size, and the pixel lies in a near or far corner that is listed
 abbrev pub InCorner : Corners → Side → ℕ → ℕ → Type 0
 InCorner corners side p n =
     (0 < corners.size)

@@ -1,4 +1,4 @@
-//! Edges that a motion passes.
+//! The edge of a screen that a motion passes.
 
 ghost use Rattle.std.specs.Prelude.{◌≡◌, pos, negsuc, ◌+ℤ◌, ◌<ℤ◌, ◌≤ℤ◌, IfSome};
 ghost use Rattle.share_base.specs.Shapes.{IsScreenShape};
@@ -7,7 +7,7 @@ ghost use Rattle.edge_cross.specs.Edges.{Leaves, side_length};
 
 use share_base::{Shape, Side};
 
-/// A direction in which edges are passed.
+/// The direction of a motion past an edge.
 #[derive(Clone, Copy, Debug, PartialEq, Eq)]
 pub enum Axis {
     /// Towards the left and the right side.
@@ -16,18 +16,18 @@ pub enum Axis {
     Vertical,
 }
 
-/// A side that is passed, and where.
+/// The side that a motion passes, and the pixel at which it does.
 #[derive(Clone, Copy, Debug, PartialEq, Eq)]
 pub struct Edge {
     /// The side.
     pub side: Side,
-    /// The pixel of that side, from 0, below the side's length.
+    /// The pixel of that side, counted from 0; below the side's length.
     pub p: u32,
 }
 
-/// The edge of a screen that a point has passed on one axis. `None` comes exactly where the point's
-/// coordinate on that axis is inside. The pixel is the other coordinate, brought into the shape and
-/// counted from its first one. It takes no memory.
+/// Returns the edge of a screen that a point has passed on one axis, or `None` if the point's coordinate
+/// on that axis is inside the shape. The pixel is the other coordinate, clamped into the shape and counted
+/// from its first pixel. Does not allocate.
 pub fn leaves(shape: &Shape, x: i32, y: i32, across: Axis) -> Option<Edge>
     requires { IsScreenShape shape.now }
     ensures leaves { Leaves result across shape.now x y }
@@ -66,7 +66,7 @@ pub fn leaves(shape: &Shape, x: i32, y: i32, across: Axis) -> Option<Edge>
     }
 }
 
-/// How many pixels after the first one the nearest of the `size` pixels is.
+/// Returns the pixel nearest to `at` among `size` pixels from `first` on, counted from `first`.
 fn along(at: i32, first: i32, size: i32) -> u32
     requires some { pos 1 ≤ℤ size }
     requires small { size ≤ℤ pos 32767 }

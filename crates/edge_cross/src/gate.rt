@@ -1,31 +1,32 @@
-//! The gate that is asked before the screens switch.
+//! The gate that a motion asks before the screens switch.
 
-ghost use Rattle.std.specs.Prelude.{◌≡◌, ◌^◌, ◌≤◌, []};
+ghost use Rattle.std.specs.Prelude.{◌≡◌, ◌≤◌, []};
+ghost use Rattle.share_base.specs.Moments.{last_moment};
 ghost use Rattle.edge_cross.specs.Gates as spec;
-ghost use Rattle.edge_cross.specs.Gates.{Ask, Away, StandsFor, Hears, Forgets, Answers, TellsWait};
+ghost use Rattle.edge_cross.specs.Gates.{Away, Represents, Hears, Forgets, Answers, Waits, asked};
 
-use share_base::Side;
+use share_base::{Side, moment_of};
 
-/// What the gate says to a motion that passes an edge.
+/// The answer to a motion that passes an edge.
 #[derive(Clone, Copy, Debug, PartialEq, Eq)]
 pub enum GateAnswer {
     /// The screens switch.
     Pass,
-    /// They don't switch yet, but at a moment.
+    /// The screens switch later, unless the motion leaves the edge before.
     Wait {
-        /// That moment, in milliseconds.
+        /// The moment at which the edge is tried again, in milliseconds.
         due: u64,
     },
-    /// They don't switch.
+    /// The screens don't switch.
     Stay,
 }
 
-/// An edge that is waited for.
+/// An edge that the gate waits for.
 #[derive(Clone, Copy, Debug, PartialEq, Eq)]
 pub struct Waiting {
     /// The side that was asked about.
     pub side: Side,
-    /// The moment at which the edge is tried, in milliseconds.
+    /// The moment at which the edge is tried again, in milliseconds.
     pub due: u64,
 }
 
@@ -36,10 +37,9 @@ struct Tap {
     side: Side,
 }
 
-/// The gate between two screens. With the option of a double tap an edge lets through only the second of
-/// two taps on it; with the option of a delay, only a motion that stays at it so long. Where both are
-/// set, the double tap alone counts. Contracts see what it keeps as the calls that it stands for: those
-/// since it was made or reset. No call takes memory.
+/// The gate between two screens. With a double-tap time, only the second of two taps on an edge passes;
+/// with a delay, only a motion that stays at the edge for that long. If both are set, the double tap
+/// alone counts. A gate represents the calls since it was made or reset. No method allocates.
 #[derive(Debug, Drop)]
 pub struct Gate {
     delay: u32,
@@ -50,10 +50,11 @@ pub struct Gate {
 }
 
 impl Gate {
-    /// A gate that was asked nothing. `delay` is how long an edge is waited for and `tap` the longest
-    /// time between two taps, both in milliseconds; 0 is none.
+    /// Creates a gate that was asked nothing yet. `delay` is how long a motion stays at an edge before it
+    /// passes, and `tap` is the longest time between two taps, both in milliseconds; 0 switches that
+    /// option off.
     pub fn new(delay: u32, tap: u32) -> Gate
-        ensures { StandsFor result delay tap [] }
+        ensures { Represents result delay tap [] }
     {
         Gate {
             delay,
@@ -64,13 +65,13 @@ impl Gate {
         }
     }
 
-    /// Asks at a moment whether the screens may switch at that side. The moment is at most
-    /// 4,611,686,018,427,387,904.
+    /// Asks whether the screens may switch at that side now. `now` is in milliseconds; one past
+    /// `share_base::LAST_MOMENT` counts as that moment.
     pub fn ask(&mut self, now: u64, side: Side) -> GateAnswer
-        requires { now ≤ 2 ^ 62 }
         ensures answers { Answers self.old now side result }
-        ensures keeps { Hears self.old self.new (Ask now side) }
+        ensures hears { Hears self.old self.new (asked now side) }
     {
+        let now = moment_of(now);
         if self.tap > 0 {
             if repeats(self.tap, self.tapped, now, side) {
                 return if self.was_away {
@@ -91,7 +92,8 @@ impl Gate {
         answer_at(now, wait)
     }
 
-    /// Hears that the motion is away from the edge: a tap may now be repeated, and a wait ends.
+    /// Tells the gate that the motion is away from the edge: the kept tap may be repeated from now on,
+    /// and a wait ends.
     pub fn away(&mut self)
         ensures { Hears self.old self.new Away }
     {
@@ -99,7 +101,7 @@ impl Gate {
         self.waiting = None;
     }
 
-    /// Forgets every tap and wait.
+    /// Forgets the kept tap and the wait.
     pub fn reset(&mut self)
         ensures { Forgets self.old self.new }
     {
@@ -108,15 +110,15 @@ impl Gate {
         self.waiting = None;
     }
 
-    /// The edge that is waited for, and when it is tried. `None` comes exactly where none is.
+    /// Returns the edge that the gate waits for and when to try it again, or `None` if it waits for none.
     pub fn due(&self) -> Option<Waiting>
-        ensures { TellsWait self.now result }
+        ensures { Waits self.now result }
     {
         self.waiting
     }
 }
 
-/// Whether an ask comes within the time on the side of the tap that is kept.
+/// Returns whether an ask is on the kept tap's side and within `time` of it.
 fn repeats(time: u32, tapped: Option<Tap>, now: u64, side: Side) -> bool
     ensures { result ≡ spec.repeats time tapped now side }
 {
@@ -126,9 +128,9 @@ fn repeats(time: u32, tapped: Option<Tap>, now: u64, side: Side) -> bool
     }
 }
 
-/// The wait that is kept after an ask: the one that goes on for its side, or a new one.
+/// Returns the wait after an ask: the current one if it is for that side, else a new one.
 fn wait_of(delay: u32, waiting: Option<Waiting>, now: u64, side: Side) -> Waiting
-    requires { now ≤ 2 ^ 62 }
+    requires { now ≤ last_moment }
     ensures { result ≡ spec.wait_of delay waiting now side }
 {
     match waiting {

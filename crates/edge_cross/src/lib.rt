@@ -1,8 +1,8 @@
-//! What a motion meets at the edge of a screen: which side it passes, corners that block it, and the
+//! What a motion meets at the edge of a screen: the side that it passes, corners that block it, and the
 //! gate that it asks before the screens switch.
 //!
-//! It owns edges (`specs/Edges.antt`), corners (`specs/InCorners.antt`) and the gate's answers
-//! (`specs/Gates.antt`). It may know no links and no machine. No call of it takes memory.
+//! The crate owns edges (`specs/Edges.antt`), corners (`specs/InCorners.antt`) and the gate's answers
+//! (`specs/Gates.antt`). It must not know links or the machine. No call allocates.
 #![tactic(auto)]
 
 mod corner;

@@ -8,7 +8,6 @@ const DESK: Shape = Shape {
     h: 1080,
 };
 
-/// The worked row of corners that block.
 #[test]
 fn corners_block_the_ends_of_a_side(rt: HostRuntime) {
     let all = Corners { set: 15, size: 20 };
@@ -33,7 +32,6 @@ fn an_edge_is_passed_at_its_pixel(rt: HostRuntime) {
     assert_eq!(rt; leaves(&DESK, 2500, -1, Axis::Vertical), Some(corner));
 }
 
-/// The worked row of two taps.
 #[test]
 fn a_second_tap_passes(rt: HostRuntime) {
     let mut gate = Gate::new(0, 500);
@@ -49,7 +47,6 @@ fn a_second_tap_passes(rt: HostRuntime) {
     assert_eq!(rt; gate.ask(100, Side::Right), GateAnswer::Stay);
 }
 
-/// The gate's part of the worked row of a delay.
 #[test]
 fn a_wait_passes_when_it_is_due(rt: HostRuntime) {
     let mut gate = Gate::new(250, 0);
@@ -60,4 +57,17 @@ fn a_wait_passes_when_it_is_due(rt: HostRuntime) {
     assert_eq!(rt; gate.ask(250, side), GateAnswer::Pass);
     gate.away();
     assert_eq!(rt; gate.due(), None);
+}
+
+#[test]
+fn a_moment_past_the_last_counts_as_the_last(rt: HostRuntime) {
+    let side = Side::Right;
+    let mut gate = Gate::new(250, 0);
+    let due = 4_611_686_018_427_388_154;
+    assert_eq!(rt; gate.ask(u64::MAX, side), GateAnswer::Wait { due });
+    assert_eq!(rt; gate.ask(u64::MAX, side), GateAnswer::Wait { due });
+    let mut taps = Gate::new(0, 500);
+    assert_eq!(rt; taps.ask(4_611_686_018_427_387_904, side), GateAnswer::Stay);
+    taps.away();
+    assert_eq!(rt; taps.ask(u64::MAX, side), GateAnswer::Pass);
 }

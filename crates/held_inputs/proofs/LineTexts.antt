@@ -14,7 +14,7 @@ use Rattle.held_inputs.specs.declared.line.Line.{Line}
 use Rattle.held_inputs.specs.declared.line.Line.TheVariants.{Enter, Leave, KeyDown, KeyRepeat, KeyUp, ButtonDown, ButtonUp, MoveTo, MoveBy, Wheel, SaverOn, SaverOff, ResetOptions, SetOption, Grab, Clip}
 use Rattle.held_inputs.specs.Line.{line_of, text}
 use Rattle.held_inputs.specs.Ranges.{Fits}
-use Rattle.message_codec.specs.Showing.{hex}
+use Rattle.share_base.specs.Hex.{hex}
 use Rattle.held_inputs.proofs.WordsApart.{Dark, AllDark, dark-tested, dark-decimal, dark-signed, dark-hex, mag_of_two, words-apart, hex-injective}
 
 -- the first word of a line, and its further words

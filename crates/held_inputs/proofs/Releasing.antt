@@ -73,31 +73,33 @@ fresh m h k e = record {
   mods = refl;
 }
 
-pub released-prints : (i new : Injector) (bytes : List ℕ) → bytes ≡ flat_map line_of (map up_of i.held.keys) ++ flat_map line_of (map ButtonUp (places i.held.buttons (length i.held.buttons))) → AllByRecursion Fits (map up_of i.held.keys) → length i.held.buttons ≤ 256 → new.held.keys ≡ [] → new.held.buttons ≡ replicate 256 false → new.mods ≡ i.mods → Prints i new ReleasesAll bytes
+pub released-prints : (i new : Injector) (before bytes : List ℕ) → bytes ≡ before ++ (flat_map line_of (map up_of i.held.keys) ++ flat_map line_of (map ButtonUp (places i.held.buttons (length i.held.buttons)))) → AllByRecursion Fits (map up_of i.held.keys) → length i.held.buttons ≤ 256 → new.held.keys ≡ [] → new.held.buttons ≡ replicate 256 false → new.mods ≡ i.mods → Prints i new ReleasesAll before bytes
 unfolding releases
-released-prints i new bytes e f few k t m = record {
+released-prints i new before bytes e f few k t m = record {
   stands = λ s h.
       let none : NothingDown (s.lines ++ releases s.lines) = cleared s.lines in record {
         keys = k ∙ sym (none-held (s.lines ++ releases s.lines) none.keys);
         buttons = λ b. ap (λ (bs : List Bool). get_or bs b false) t ∙ unset 256 b ∙ sym (none.buttons b);
         mods = m ∙ h.mods;
       };
-  gives = λ s h. rw (e, h.keys, places-are i.held.buttons s.lines h.buttons) (sym (flat_map-append line_of (map up_of (held_keys s.lines)) (map ButtonUp (held_buttons s.lines))));
+  gives = λ s h. rw (e, h.keys, places-are i.held.buttons s.lines h.buttons) (ap (λ (text : List ℕ). before ++ text) (sym (flat_map-append line_of (map up_of (held_keys s.lines)) (map ButtonUp (held_buttons s.lines)))));
   fits = λ s h. fit-append (map up_of (held_keys s.lines)) (map ButtonUp (held_buttons s.lines)) (rw h.keys at f) (rw (places-are i.held.buttons s.lines h.buttons) at (fit-places i.held.buttons (length i.held.buttons) few));
 }
 
-pub leave-prints : (i new : Injector) (mid bytes : List ℕ) → Prints i new ReleasesAll mid → bytes ≡ mid ++ line_of Leave → Prints i new (Applies msg.Leave) bytes
-leave-prints i new mid bytes p e = record {
+pub leave-prints : (i new : Injector) (before mid bytes : List ℕ) → Prints i new ReleasesAll before mid → bytes ≡ mid ++ line_of Leave → Prints i new (Applies msg.Leave) before bytes
+leave-prints i new before mid bytes p e = record {
   stands = λ s h. subst (λ (t : List Line). Stands new (record { lines = t; mods = s.mods })) (append_assoc s.lines (releases s.lines) (Leave ∷ []))
       (stands-plain new (record { lines = s.lines ++ releases s.lines; mods = s.mods }) Leave (λ b. refl) (λ b. refl) (p.stands s h));
-  gives = λ s h. e ∙ ap (λ (t : List ℕ). t ++ line_of Leave) (p.gives s h) ∙ sym (flat_map-append line_of (releases s.lines) (Leave ∷ []));
+  gives = λ s h.
+      e ∙ ap (λ (t : List ℕ). t ++ line_of Leave) (p.gives s h) ∙ append_assoc before (flat_map line_of (releases s.lines)) (line_of Leave)
+      ∙ ap (λ (t : List ℕ). before ++ t) (sym (flat_map-append line_of (releases s.lines) (Leave ∷ [])));
   fits = λ s h. fit-append (releases s.lines) (Leave ∷ []) (p.fits s h) (tt, tt);
 }
 
-pub tells-prints : (i new : Injector) (call : Call) (o : Option Line) (bytes : List ℕ) → Tells i new call (option_to_list o) → IfSome o Fits → bytes ≡ flat_map line_of (option_to_list o) → Prints i new call bytes
-tells-prints i new call o bytes t f e = record {
+pub tells-prints : (i new : Injector) (call : Call) (o : Option Line) (before bytes : List ℕ) → Tells i new call (option_to_list o) → IfSome o Fits → bytes ≡ before ++ flat_map line_of (option_to_list o) → Prints i new call before bytes
+tells-prints i new call o before bytes t f e = record {
   stands = t.stands;
-  gives = λ s h. e ∙ ap (λ (ls : List Line). flat_map line_of ls) (t.gives s h);
+  gives = λ s h. e ∙ ap (λ (ls : List Line). before ++ flat_map line_of ls) (t.gives s h);
   fits = λ s h. subst (AllByRecursion Fits) (t.gives s h) (fit-one o f);
 }
 

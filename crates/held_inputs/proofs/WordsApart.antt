@@ -10,7 +10,8 @@ use Rattle.std.proofs.lemmas.Bool.{and_parts, ltb-true}
 use Rattle.std.proofs.lemmas.Bool.Decides.{nat_tests}
 use Rattle.std.proofs.lemmas.List.{append-nil}
 use Rattle.held_inputs.specs.Line.{text}
-use Rattle.message_codec.specs.Showing.{hex, hex_pair, hex_digit, after_blank}
+use Rattle.share_base.specs.Hex.{hex, hex_pair, hex_digit}
+use Rattle.message_codec.specs.Showing.{after_blank}
 
 -- every byte is above the blank
 abbrev pub Dark : List ℕ → Type 0

@@ -4,7 +4,8 @@ use Rattle.std.specs.List.{flat_map}
 use Rattle.std.specs.Fmt.{decimal, signed_decimal}
 use Rattle.std.specs.Int.{w32, to_be_bytes}
 use Rattle.share_base.specs.Clips.{clip_number}
-use Rattle.message_codec.specs.Showing.{hex, after_blank}
+use Rattle.share_base.specs.Hex.{hex}
+use Rattle.message_codec.specs.Showing.{after_blank}
 use Rattle.held_inputs.specs.declared.line.Line.{Line}
 use Rattle.held_inputs.specs.declared.line.Line.TheVariants.{Enter, Leave, KeyDown, KeyRepeat, KeyUp, ButtonDown, ButtonUp, MoveTo, MoveBy, Wheel, SaverOn, SaverOff, ResetOptions, SetOption, Grab, Clip}
 

@@ -6,16 +6,18 @@ ghost use Rattle.held_inputs.specs.Line.{line_of};
 ghost use Rattle.held_inputs.specs.Ranges.{Fits};
 ghost use Rattle.held_inputs.specs.Down.{up_of};
 ghost use Rattle.held_inputs.specs.Table.{found, inserted, removed, places};
-ghost use Rattle.held_inputs.specs.Stands.{AllUp};
+ghost use Rattle.held_inputs.specs.Stands.{AllUp, release_text};
 ghost use Rattle.held_inputs.specs.declared.line.Line.TheVariants.{ButtonUp};
 
 use crate::keys::{HeldKey, HeldKeys, MOST_KEYS};
 use crate::line::Line;
 use crate::printing::put_line;
-use share_base::Lines;
+use share_base::Buffer;
 
-/// At most 512 keys and 256 mouse buttons that are down, in tables of fixed size. No call takes
-/// memory.
+/// The longest lines of a release, in bytes: 512 keys at 19 bytes and 256 mouse buttons at 16.
+pub const LONGEST_RELEASE: usize = 13_824;
+
+/// At most 512 keys and 256 mouse buttons that are down, in tables of fixed size. No method allocates.
 #[derive(Drop)]
 pub struct Held {
     keys: HeldKeys,
@@ -34,7 +36,7 @@ impl Held {
         }
     }
 
-    /// The id with which the key at a button went down. `None` comes exactly where it is up.
+    /// The id with which the key at a button went down; `None` if it is up.
     pub fn id(&self, button: u16) -> Option<u16>
         ensures { result ≡ found self.now.keys button }
     {
@@ -43,14 +45,14 @@ impl Held {
 
     /// Whether there is no room for another key.
     pub fn is_full(&self) -> bool
-        ensures { IsTrue result ↔ (512 ≤ length self.now.keys) }
+        ensures { IsTrue result ↔ (MOST_KEYS ≤ length self.now.keys) }
     {
         self.keys.as_slice().len() >= MOST_KEYS
     }
 
     /// A key that is up goes down. There has to be room.
     pub fn press(&mut self, button: u16, id: u16)
-        requires { length self.old.keys < 512 }
+        requires { length self.old.keys < MOST_KEYS }
         ensures keys { self.new.keys ≡ inserted self.old.keys button id }
         ensures buttons { self.new.buttons ≡ self.old.buttons }
     {
@@ -93,21 +95,23 @@ impl Held {
         self.keys.as_slice().is_empty()
     }
 
-    /// All that is down goes up: the keys by rising button, then the mouse buttons by rising number.
-    pub fn release(&mut self) -> Lines
-        ensures printed { result ≡ flat_map line_of (map up_of self.old.keys) ++ flat_map line_of (map ButtonUp (places self.old.buttons (length self.old.buttons))) }
+    /// Releases all that is down: the keys by rising button, then the mouse buttons by rising number.
+    /// Their lines have to fit; `bound` says how long they are.
+    pub fn release<B: Buffer>(&mut self, lines: &mut B)
+        requires { length (B.content lines.old) + LONGEST_RELEASE ≤ B.capacity lines.old }
+        ensures printed { B.content lines.new ≡ B.content lines.old ++ release_text self.old }
         ensures fits { AllByRecursion Fits (map up_of self.old.keys) }
         ensures few { length self.old.buttons ≤ 256 }
         ensures keys { self.new.keys ≡ [] }
         ensures buttons { self.new.buttons ≡ replicate 256 false }
-        ensures bound { length result ≤ 13824 }
+        ensures bound { length (B.content lines.new)
+            ≤ length (B.content lines.old) + LONGEST_RELEASE }
+        ensures capacity { B.capacity lines.old ≤ B.capacity lines.new }
     {
-        let mut lines = Lines::new();
-        put_key_ups(&mut lines, self.keys.as_slice());
-        put_button_ups(&mut lines, &self.buttons);
+        put_key_ups(lines, self.keys.as_slice());
+        put_button_ups(lines, &self.buttons);
         self.keys.clear();
         self.buttons = [false; 256];
-        lines
     }
 }
 
@@ -120,11 +124,14 @@ fn up_of(key: HeldKey) -> Line
     Line::KeyUp { id, button }
 }
 
-fn put_key_ups(lines: &mut Lines, keys: &[HeldKey])
-    requires { length lines.old + 19 * length keys.now ≤ 16384 }
-    ensures printed { lines.new ≡ lines.old ++ flat_map line_of (map up_of keys.now) }
+fn put_key_ups<B: Buffer>(lines: &mut B, keys: &[HeldKey])
+    requires { length (B.content lines.old) + 19 * length keys.now ≤ B.capacity lines.old }
+    ensures printed { B.content lines.new
+        ≡ B.content lines.old ++ flat_map line_of (map up_of keys.now) }
     ensures fits { AllByRecursion Fits (map up_of keys.now) }
-    ensures bound { length lines.new ≤ length lines.old + 19 * length keys.now }
+    ensures bound { length (B.content lines.new)
+        ≤ length (B.content lines.old) + 19 * length keys.now }
+    ensures capacity { B.capacity lines.old ≤ B.capacity lines.new }
 {
     for key in keys {
         put_line(lines, up_of(*key));
@@ -132,11 +139,14 @@ fn put_key_ups(lines: &mut Lines, keys: &[HeldKey])
 }
 
 #[tactic(auto, unfolding(crate::specs::Table::places))]
-fn put_button_ups(lines: &mut Lines, buttons: &[bool])
+fn put_button_ups<B: Buffer>(lines: &mut B, buttons: &[bool])
     requires few { length buttons.now ≤ 256 }
-    requires room { length lines.old + 16 * length buttons.now ≤ 16384 }
-    ensures printed { lines.new ≡ lines.old ++ flat_map line_of (map ButtonUp (places buttons.now (length buttons.now))) }
-    ensures bound { length lines.new ≤ length lines.old + 16 * length buttons.now }
+    requires room { length (B.content lines.old) + 16 * length buttons.now ≤ B.capacity lines.old }
+    ensures printed { B.content lines.new ≡ B.content lines.old
+        ++ flat_map line_of (map ButtonUp (places buttons.now (length buttons.now))) }
+    ensures bound { length (B.content lines.new)
+        ≤ length (B.content lines.old) + 16 * length buttons.now }
+    ensures capacity { B.capacity lines.old ≤ B.capacity lines.new }
 {
     for (b, down) in buttons.iter().enumerate() {
         if *down {

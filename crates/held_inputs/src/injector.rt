@@ -1,24 +1,27 @@
 //! What a message does to a screen.
 
-ghost use Rattle.std.specs.Prelude.{◌≡◌, ◌↔◌, ◌≤◌, ℕ, [], IsTrue, IfSome, length};
+ghost use Rattle.std.specs.Prelude.{◌≡◌, ◌↔◌, ◌≤◌, ◌+◌, ◌++◌, ℕ, [], IsTrue, IfSome, length};
 ghost use Rattle.std.specs.List.{flat_map};
 ghost use Rattle.std.specs.Option.{option_to_list, ForSome};
 ghost use Rattle.message_codec.specs.declared.messages.Msg.TheVariants as message;
 ghost use Rattle.held_inputs.specs.Line.{line_of, IsShort};
 ghost use Rattle.held_inputs.specs.Ranges.{Fits};
 ghost use Rattle.held_inputs.specs.Balanced.{NothingDown};
-ghost use Rattle.held_inputs.specs.Screen.{Screen, Applies, SetsOption, ResetsOptions, ReleasesAll, after, meant_id, meant_mask, saver_line};
-ghost use Rattle.held_inputs.specs.Stands.{Stands, StandsFor, Tells, Prints};
+ghost use Rattle.held_inputs.specs.Screen.{Screen, Applies, SetsOption, ResetsOptions, ReleasesAll, meant_id, meant_mask, saver_line};
+ghost use Rattle.held_inputs.specs.Stands.{Stands, StandsFor, Follows, Tells, Prints};
 
-use crate::held::Held;
+use crate::held::{Held, LONGEST_RELEASE};
 use crate::line::Line;
-use crate::printing::put_line;
+use crate::printing::{LONGEST_LINE, put_line};
 use message_codec::Msg;
 use modifier_map::ModMap;
-use share_base::{KeyId, Lines, Mask};
+use share_base::{Buffer, KeyId, Lines, Mask, ShortLine};
+
+/// The longest lines of one message, in bytes: those of a release and then `leave`.
+pub const LONGEST_ANSWER: usize = 13_830;
 
 /// Turns messages into the lines that a screen prints. It keeps what is down there, and the map of
-/// modifiers. No call takes memory.
+/// modifiers. No method allocates.
 #[derive(Drop)]
 pub struct Injector {
     held: Held,
@@ -38,57 +41,72 @@ impl Injector {
 
     /// Changes the map as `ModMap::set` does. What is down stays down, with the id of its down.
     pub fn set_option(&mut self, code: u32, value: u32)
-        ensures { (s : Screen) → Stands self.old s → Stands self.new (after s (SetsOption code value)) }
+        ensures { Follows self.old self.new (SetsOption code value) }
     {
         self.mods.set(code, value);
     }
 
     /// From now on each modifier is itself. What is down stays down, with the id of its down.
     pub fn reset_options(&mut self)
-        ensures { (s : Screen) → Stands self.old s → Stands self.new (after s ResetsOptions) }
+        ensures { Follows self.old self.new ResetsOptions }
     {
         self.mods = ModMap::new();
     }
 
-    /// The lines of a message. Those of options and clipboards give none, since the caller prints
-    /// their lines and calls `set_option` and `reset_options`; so do those for which none is printed.
-    /// No answer is longer than the releases with `leave` after them.
+    /// Applies a message and returns its lines, at most `LONGEST_ANSWER` bytes: the releases and then
+    /// `leave`. There are none for messages of options and clipboards, whose lines the caller prints
+    /// and for which it calls `set_option` and `reset_options`.
     pub fn apply(&mut self, msg: &Msg) -> Lines
-        ensures prints { Prints self.old self.new (Applies msg.now) result }
-        ensures bound { length result ≤ 13830 }
+        ensures prints { Prints self.old self.new (Applies msg.now) [] result }
+        ensures bound { length result ≤ LONGEST_ANSWER }
+    {
+        let mut lines = Lines::new();
+        self.apply_to(msg, &mut lines);
+        lines
+    }
+
+    /// Appends the lines that `apply` returns to a buffer that has room for them.
+    pub fn apply_to<B: Buffer>(&mut self, msg: &Msg, lines: &mut B)
+        requires { length (B.content lines.old) + LONGEST_ANSWER ≤ B.capacity lines.old }
+        ensures prints { Prints self.old self.new (Applies msg.now)
+            (B.content lines.old) (B.content lines.new) }
+        ensures bound { length (B.content lines.new)
+            ≤ length (B.content lines.old) + LONGEST_ANSWER }
     {
         match msg {
-            Msg::Enter { x, y, seq, mask } => one(self.enter(*x, *y, *seq, *mask)),
-            Msg::Leave => self.leave(),
-            Msg::KeyDown { id, mask, button } => one(self.press(*id, *mask, *button)),
+            Msg::Enter { x, y, seq, mask } => put_one(lines, self.enter(*x, *y, *seq, *mask)),
+            Msg::Leave => self.leave(lines),
+            Msg::KeyDown { id, mask, button } => put_one(lines, self.press(*id, *mask, *button)),
             Msg::KeyRepeat {
                 id: _,
                 mask,
                 count,
                 button,
-            } => one(self.repeat(*mask, *count, *button)),
+            } => put_one(lines, self.repeat(*mask, *count, *button)),
             Msg::KeyUp {
                 id: _,
                 mask: _,
                 button,
-            } => one(self.lift(*button)),
-            Msg::ButtonDown { b } => one(self.push(*b)),
-            Msg::ButtonUp { b } => one(self.let_go(*b)),
-            Msg::MoveTo { x, y } => one(Some(Line::MoveTo { x: *x, y: *y })),
-            Msg::MoveBy { dx, dy } => one(Some(Line::MoveBy { dx: *dx, dy: *dy })),
-            Msg::Wheel { dx, dy } => one(Some(Line::Wheel { dx: *dx, dy: *dy })),
-            Msg::Saver { on } => one(Some(saver(*on))),
-            _ => Lines::new(),
+            } => put_one(lines, self.lift(*button)),
+            Msg::ButtonDown { b } => put_one(lines, self.push(*b)),
+            Msg::ButtonUp { b } => put_one(lines, self.let_go(*b)),
+            Msg::MoveTo { x, y } => put_one(lines, Some(Line::MoveTo { x: *x, y: *y })),
+            Msg::MoveBy { dx, dy } => put_one(lines, Some(Line::MoveBy { dx: *dx, dy: *dy })),
+            Msg::Wheel { dx, dy } => put_one(lines, Some(Line::Wheel { dx: *dx, dy: *dy })),
+            Msg::Saver { on } => put_one(lines, Some(saver(*on))),
+            _ => {}
         }
     }
 
-    /// The ups of all that is down: the keys by rising button, then the mouse buttons by rising
-    /// number. After it nothing is down. The bound is 512 keys at 19 bytes and 256 mouse buttons at 16.
+    /// Releases all that is down, and returns the lines: the keys by rising button, then the mouse
+    /// buttons by rising number.
     pub fn release_all(&mut self) -> Lines
-        ensures prints { Prints self.old self.new ReleasesAll result }
-        ensures bound { length result ≤ 13824 }
+        ensures prints { Prints self.old self.new ReleasesAll [] result }
+        ensures bound { length result ≤ LONGEST_RELEASE }
     {
-        self.held.release()
+        let mut lines = Lines::new();
+        self.held.release(&mut lines);
+        lines
     }
 
     /// Whether nothing is down.
@@ -99,7 +117,8 @@ impl Injector {
     }
 
     fn enter(&mut self, x: i16, y: i16, seq: u32, mask: u16) -> Option<Line>
-        ensures tells { Tells self.old self.new (Applies (message.Enter x y seq mask)) (option_to_list result) }
+        ensures tells { Tells self.old self.new (Applies (message.Enter x y seq mask))
+            (option_to_list result) }
         ensures short { IfSome result IsShort }
         ensures fits { IfSome result Fits }
     {
@@ -107,17 +126,20 @@ impl Injector {
         Some(Line::Enter { x, y, seq, mask })
     }
 
-    fn leave(&mut self) -> Lines
-        ensures prints { Prints self.old self.new (Applies message.Leave) result }
-        ensures bound { length result ≤ 13830 }
+    fn leave<B: Buffer>(&mut self, lines: &mut B)
+        requires { length (B.content lines.old) + LONGEST_ANSWER ≤ B.capacity lines.old }
+        ensures prints { Prints self.old self.new (Applies message.Leave)
+            (B.content lines.old) (B.content lines.new) }
+        ensures bound { length (B.content lines.new)
+            ≤ length (B.content lines.old) + LONGEST_ANSWER }
     {
-        let mut lines = self.release_all();
-        put_line(&mut lines, Line::Leave);
-        lines
+        self.held.release(lines);
+        put_line(lines, Line::Leave);
     }
 
     fn press(&mut self, id: u16, mask: u16, button: u16) -> Option<Line>
-        ensures tells { Tells self.old self.new (Applies (message.KeyDown id mask button)) (option_to_list result) }
+        ensures tells { Tells self.old self.new (Applies (message.KeyDown id mask button))
+            (option_to_list result) }
         ensures short { IfSome result IsShort }
         ensures fits { IfSome result Fits }
     {
@@ -139,7 +161,8 @@ impl Injector {
     }
 
     fn repeat(&mut self, mask: u16, count: u16, button: u16) -> Option<Line>
-        ensures tells { (id : ℕ) → Tells self.old self.new (Applies (message.KeyRepeat id mask count button)) (option_to_list result) }
+        ensures tells { (id : ℕ) → Tells self.old self.new
+            (Applies (message.KeyRepeat id mask count button)) (option_to_list result) }
         ensures short { IfSome result IsShort }
         ensures fits { IfSome result Fits }
     {
@@ -154,7 +177,8 @@ impl Injector {
     }
 
     fn lift(&mut self, button: u16) -> Option<Line>
-        ensures tells { (id mask : ℕ) → Tells self.old self.new (Applies (message.KeyUp id mask button)) (option_to_list result) }
+        ensures tells { (id mask : ℕ) → Tells self.old self.new
+            (Applies (message.KeyUp id mask button)) (option_to_list result) }
         ensures short { IfSome result IsShort }
         ensures fits { IfSome result Fits }
     {
@@ -164,7 +188,8 @@ impl Injector {
     }
 
     fn push(&mut self, b: u8) -> Option<Line>
-        ensures tells { Tells self.old self.new (Applies (message.ButtonDown b)) (option_to_list result) }
+        ensures tells { Tells self.old self.new (Applies (message.ButtonDown b))
+            (option_to_list result) }
         ensures short { IfSome result IsShort }
         ensures fits { IfSome result Fits }
     {
@@ -176,7 +201,8 @@ impl Injector {
     }
 
     fn let_go(&mut self, b: u8) -> Option<Line>
-        ensures tells { Tells self.old self.new (Applies (message.ButtonUp b)) (option_to_list result) }
+        ensures tells { Tells self.old self.new (Applies (message.ButtonUp b))
+            (option_to_list result) }
         ensures short { IfSome result IsShort }
         ensures fits { IfSome result Fits }
     {
@@ -214,15 +240,18 @@ fn saver(on: u8) -> Line
     }
 }
 
-/// At most one line.
-fn one(line: Option<Line>) -> Lines
-    requires { ForSome line IsShort }
-    ensures printed { result ≡ flat_map line_of (option_to_list line) }
-    ensures bound { length result ≤ 37 }
+// Appends at most one line.
+fn put_one<B: Buffer>(lines: &mut B, line: Option<Line>)
+    requires short { ForSome line IsShort }
+    requires fits { length (B.content lines.old) + LONGEST_LINE ≤ B.capacity lines.old }
+    ensures printed { B.content lines.new
+        ≡ B.content lines.old ++ flat_map line_of (option_to_list line) }
+    ensures bound { length (B.content lines.new) ≤ length (B.content lines.old) + LONGEST_LINE }
 {
-    let mut lines = Lines::new();
-    if let Some(line) = line {
-        put_line(&mut lines, line);
-    }
-    lines
+    let Some(line) = line else {
+        return;
+    };
+    let mut text = ShortLine::new();
+    put_line(&mut text, line);
+    lines.extend(text.as_slice());
 }

@@ -18,8 +18,8 @@ pub struct HeldKey {
     pub id: u16,
 }
 
-/// The keys that are down, at most 512 of them, by rising button. Contracts see the list. No call
-/// takes memory.
+/// The keys that are down, at most 512 of them, by rising button. Contracts see the list. No method
+/// allocates.
 #[derive(Drop)]
 pub struct HeldKeys {
     slots: ArrayVec<HeldKey, MOST_KEYS>,
@@ -47,12 +47,12 @@ impl HeldKeys {
     /// The keys, by rising button.
     pub fn as_slice(&self) -> &[HeldKey]
         ensures value { result.now ≡ self.now }
-        ensures fits { length self.now ≤ 512 }
+        ensures fits { length self.now ≤ MOST_KEYS }
     {
         self.slots.as_slice()
     }
 
-    /// The id of the key at a button. `None` comes exactly where none is held there.
+    /// The id of the key at a button; `None` if it is up.
     pub fn id(&self, button: u16) -> Option<u16>
         ensures { result ≡ found self.now button }
     {
@@ -70,7 +70,7 @@ impl HeldKeys {
 
     /// Adds the key at a button at which none is held. There has to be room.
     pub fn insert(&mut self, button: u16, id: u16)
-        requires { length self.old < 512 }
+        requires { length self.old < MOST_KEYS }
         ensures { self.new ≡ inserted self.old button id }
     {
         let at = place_of(self.slots.as_slice(), button);

@@ -16,27 +16,32 @@ ghost use Rattle.held_inputs.specs.Balanced.{Balanced, NothingDown, ClearAtLeave
 /// Whatever a screen is told, after its releases every key and every mouse button has gone up, one up
 /// for each down, and nothing was down where it was left.
 pub fn released()
-    ensures balanced { (mods : ModMap) (calls : List Call) → Balanced (screen mods (calls ++ ReleasesAll ∷ [])).lines }
-    ensures nothing { (mods : ModMap) (calls : List Call) → NothingDown (screen mods (calls ++ ReleasesAll ∷ [])).lines }
+    ensures balanced { (mods : ModMap) (calls : List Call)
+        → Balanced (screen mods (calls ++ ReleasesAll ∷ [])).lines }
+    ensures nothing { (mods : ModMap) (calls : List Call)
+        → NothingDown (screen mods (calls ++ ReleasesAll ∷ [])).lines }
     ensures leaves { (mods : ModMap) (calls : List Call) → ClearAtLeaves (screen mods calls).lines }
 {}
 
 /// A list of calls grows by one call as `after` says. So what the calls of an injector say of every
-/// screen for which it stood says, of every list of calls for which it stood, that it stands for that
-/// list with the call added, and what it printed.
+/// screen that it represents, they say of every list of calls that it represents.
 pub fn one_call_more()
-    ensures { (mods : ModMap) (calls : List Call) (c : Call) → screen mods (calls ++ c ∷ []) ≡ after (screen mods calls) c }
+    ensures { (mods : ModMap) (calls : List Call) (c : Call)
+        → screen mods (calls ++ c ∷ []) ≡ after (screen mods calls) c }
 {}
 
 /// Lines of options and of clipboards, which a layer above prints between the calls, leave down what
 /// was down.
 pub fn plain_lines()
-    ensures { (i : Injector) (s : Screen) (more : List Line) → AllByRecursion IsPlain more → Stands i s → Stands i (with_lines s more) }
+    ensures { (i : Injector) (s : Screen) (more : List Line)
+        → AllByRecursion IsPlain more → Stands i s → Stands i (with_lines s more) }
 {}
 
 /// The text of no line begins that of another, and the text of a list of lines is that of no other
 /// list. So printed bytes have one reading as lines.
 pub fn one_text()
-    ensures line { (l m : Line) (x y : List ℕ) → Fits l → Fits m → line_of l ++ x ≡ line_of m ++ y → (l ≡ m) × (x ≡ y) }
-    ensures list { (ls ms : List Line) → AllByRecursion Fits ls → AllByRecursion Fits ms → flat_map line_of ls ≡ flat_map line_of ms → ls ≡ ms }
+    ensures line { (l m : Line) (x y : List ℕ) → Fits l → Fits m
+        → line_of l ++ x ≡ line_of m ++ y → (l ≡ m) × (x ≡ y) }
+    ensures list { (ls ms : List Line) → AllByRecursion Fits ls → AllByRecursion Fits ms
+        → flat_map line_of ls ≡ flat_map line_of ms → ls ≡ ms }
 {}

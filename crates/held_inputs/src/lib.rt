@@ -15,7 +15,8 @@ mod printing;
 #[cfg(test)]
 mod tests;
 
-pub use injector::Injector;
+pub use held::LONGEST_RELEASE;
+pub use injector::{Injector, LONGEST_ANSWER};
 pub use laws::{one_call_more, one_text, plain_lines, released};
 pub use line::Line;
-pub use printing::put_line;
+pub use printing::{LONGEST_LINE, put_line};

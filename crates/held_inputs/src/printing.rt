@@ -4,17 +4,22 @@ ghost use Rattle.std.specs.Prelude.{◌≡◌, ◌≤◌, ◌<◌, ◌+◌, ◌*
 ghost use Rattle.std.specs.Int.{w32, to_be_bytes};
 ghost use Rattle.std.specs.Fmt.{decimal, signed_decimal};
 ghost use Rattle.held_inputs.specs.Line.{line_of, room_of, text};
-ghost use Rattle.message_codec.specs.Showing.{hex_digit, hex, after_blank};
+ghost use Rattle.share_base.specs.Hex.{hex};
+ghost use Rattle.message_codec.specs.Showing.{after_blank};
 
 use crate::line::Line;
-use share_base::{Lines, put_i16, put_u16, put_u32};
+use share_base::{Buffer, hex_pair, put_i16, put_u16, put_u32};
 
-/// Prints a line and its newline at the end of `lines`. They have to fit: `room_of` has, for each
-/// kind of line, the most bytes that it takes.
-pub fn put_line(lines: &mut Lines, line: Line)
-    requires { length lines.old + room_of line ≤ 16384 }
-    ensures printed { lines.new ≡ lines.old ++ line_of line }
-    ensures bound { length lines.new ≤ length lines.old + room_of line }
+/// The longest line of a message other than an option or a clipboard, in bytes.
+pub const LONGEST_LINE: usize = 37;
+
+/// Appends a line and its newline, which have to fit: `room_of` has the most bytes that each kind of
+/// line takes.
+pub fn put_line<B: Buffer>(lines: &mut B, line: Line)
+    requires { length (B.content lines.old) + room_of line ≤ B.capacity lines.old }
+    ensures printed { B.content lines.new ≡ B.content lines.old ++ line_of line }
+    ensures bound { length (B.content lines.new) ≤ length (B.content lines.old) + room_of line }
+    ensures capacity { B.capacity lines.old ≤ B.capacity lines.new }
 {
     match line {
         Line::Enter { x, y, seq, mask } => put_enter(lines, x, y, seq, mask),
@@ -41,10 +46,12 @@ pub fn put_line(lines: &mut Lines, line: Line)
     }
 }
 
-fn put_enter(lines: &mut Lines, x: i16, y: i16, seq: u32, mask: u16)
-    requires { length lines.old + 37 ≤ 16384 }
-    ensures printed { lines.new ≡ lines.old ++ text (codes "enter") (signed_decimal x ∷ signed_decimal y ∷ decimal seq ∷ decimal mask ∷ []) }
-    ensures bound { length lines.new ≤ length lines.old + 37 }
+fn put_enter<B: Buffer>(lines: &mut B, x: i16, y: i16, seq: u32, mask: u16)
+    requires { length (B.content lines.old) + LONGEST_LINE ≤ B.capacity lines.old }
+    ensures printed { B.content lines.new ≡ B.content lines.old ++ text (codes "enter")
+        (signed_decimal x ∷ signed_decimal y ∷ decimal seq ∷ decimal mask ∷ []) }
+    ensures bound { length (B.content lines.new) ≤ length (B.content lines.old) + LONGEST_LINE }
+    ensures capacity { B.capacity lines.old ≤ B.capacity lines.new }
 {
     lines.extend(b"enter");
     put_signed_field(lines, x);
@@ -56,10 +63,13 @@ fn put_enter(lines: &mut Lines, x: i16, y: i16, seq: u32, mask: u16)
 }
 
 /// Words, and then two signed numbers.
-fn put_pair(lines: &mut Lines, words: &[u8], first: i16, second: i16)
-    requires { length lines.old + length words.now + 15 ≤ 16384 }
-    ensures printed { lines.new ≡ lines.old ++ text words.now (signed_decimal first ∷ signed_decimal second ∷ []) }
-    ensures bound { length lines.new ≤ length lines.old + length words.now + 15 }
+fn put_pair<B: Buffer>(lines: &mut B, words: &[u8], first: i16, second: i16)
+    requires { length (B.content lines.old) + length words.now + 15 ≤ B.capacity lines.old }
+    ensures printed { B.content lines.new ≡ B.content lines.old
+        ++ text words.now (signed_decimal first ∷ signed_decimal second ∷ []) }
+    ensures bound { length (B.content lines.new)
+        ≤ length (B.content lines.old) + length words.now + 15 }
+    ensures capacity { B.capacity lines.old ≤ B.capacity lines.new }
 {
     lines.extend(words);
     put_signed_field(lines, first);
@@ -68,10 +78,14 @@ fn put_pair(lines: &mut Lines, words: &[u8], first: i16, second: i16)
 }
 
 /// Words, and then numbers of two bytes.
-fn put_numbers(lines: &mut Lines, words: &[u8], numbers: &[u16])
-    requires { length lines.old + (length words.now + 6 * length numbers.now + 1) ≤ 16384 }
-    ensures printed { lines.new ≡ lines.old ++ text words.now (map decimal numbers.now) }
-    ensures bound { length lines.new ≤ length lines.old + (length words.now + 6 * length numbers.now + 1) }
+fn put_numbers<B: Buffer>(lines: &mut B, words: &[u8], numbers: &[u16])
+    requires { length (B.content lines.old) + (length words.now + 6 * length numbers.now + 1)
+        ≤ B.capacity lines.old }
+    ensures printed { B.content lines.new
+        ≡ B.content lines.old ++ text words.now (map decimal numbers.now) }
+    ensures bound { length (B.content lines.new)
+        ≤ length (B.content lines.old) + (length words.now + 6 * length numbers.now + 1) }
+    ensures capacity { B.capacity lines.old ≤ B.capacity lines.new }
 {
     lines.extend(words);
     for number in numbers {
@@ -80,10 +94,12 @@ fn put_numbers(lines: &mut Lines, words: &[u8], numbers: &[u16])
     lines.extend(b"\n");
 }
 
-fn put_option(lines: &mut Lines, code: u32, value: u32)
-    requires { length lines.old + 28 ≤ 16384 }
-    ensures printed { lines.new ≡ lines.old ++ text (codes "option") (hex (to_be_bytes w32 code) ∷ decimal value ∷ []) }
-    ensures bound { length lines.new ≤ length lines.old + 28 }
+fn put_option<B: Buffer>(lines: &mut B, code: u32, value: u32)
+    requires { length (B.content lines.old) + 28 ≤ B.capacity lines.old }
+    ensures printed { B.content lines.new ≡ B.content lines.old
+        ++ text (codes "option") (hex (to_be_bytes w32 code) ∷ decimal value ∷ []) }
+    ensures bound { length (B.content lines.new) ≤ length (B.content lines.old) + 28 }
+    ensures capacity { B.capacity lines.old ≤ B.capacity lines.new }
 {
     lines.extend(b"option ");
     put_hex(lines, &code.to_be_bytes());
@@ -92,10 +108,13 @@ fn put_option(lines: &mut Lines, code: u32, value: u32)
     lines.extend(b"\n");
 }
 
-fn put_clip(lines: &mut Lines, clip: u8, bytes: &[u8])
-    requires { length lines.old + (2 * length bytes.now + 13) ≤ 16384 }
-    ensures printed { lines.new ≡ lines.old ++ text (codes "clip") (decimal clip ∷ hex bytes.now ∷ []) }
-    ensures bound { length lines.new ≤ length lines.old + (2 * length bytes.now + 13) }
+fn put_clip<B: Buffer>(lines: &mut B, clip: u8, bytes: &[u8])
+    requires { length (B.content lines.old) + (2 * length bytes.now + 13) ≤ B.capacity lines.old }
+    ensures printed { B.content lines.new
+        ≡ B.content lines.old ++ text (codes "clip") (decimal clip ∷ hex bytes.now ∷ []) }
+    ensures bound { length (B.content lines.new)
+        ≤ length (B.content lines.old) + (2 * length bytes.now + 13) }
+    ensures capacity { B.capacity lines.old ≤ B.capacity lines.new }
 {
     lines.extend(b"clip");
     put_field(lines, clip as u16);
@@ -104,46 +123,40 @@ fn put_clip(lines: &mut Lines, clip: u8, bytes: &[u8])
     lines.extend(b"\n");
 }
 
-fn put_field(lines: &mut Lines, number: u16)
-    requires { length lines.old + 6 ≤ 16384 }
-    ensures printed { lines.new ≡ lines.old ++ after_blank (decimal number) }
-    ensures bound { length lines.new ≤ length lines.old + 6 }
+fn put_field<B: Buffer>(lines: &mut B, number: u16)
+    requires { length (B.content lines.old) + 6 ≤ B.capacity lines.old }
+    ensures printed { B.content lines.new ≡ B.content lines.old ++ after_blank (decimal number) }
+    ensures bound { length (B.content lines.new) ≤ length (B.content lines.old) + 6 }
+    ensures capacity { B.capacity lines.old ≤ B.capacity lines.new }
 {
     lines.extend(b" ");
     put_u16(lines, number);
 }
 
-fn put_signed_field(lines: &mut Lines, number: i16)
-    requires { length lines.old + 7 ≤ 16384 }
-    ensures printed { lines.new ≡ lines.old ++ after_blank (signed_decimal number) }
-    ensures bound { length lines.new ≤ length lines.old + 7 }
+fn put_signed_field<B: Buffer>(lines: &mut B, number: i16)
+    requires { length (B.content lines.old) + 7 ≤ B.capacity lines.old }
+    ensures printed { B.content lines.new
+        ≡ B.content lines.old ++ after_blank (signed_decimal number) }
+    ensures bound { length (B.content lines.new) ≤ length (B.content lines.old) + 7 }
+    ensures capacity { B.capacity lines.old ≤ B.capacity lines.new }
 {
     lines.extend(b" ");
     put_i16(lines, number);
 }
 
 /// Bytes as pairs of digits, or `-` for none.
-fn put_hex(lines: &mut Lines, bytes: &[u8])
-    requires { length lines.old + (2 * length bytes.now + 1) ≤ 16384 }
-    ensures printed { lines.new ≡ lines.old ++ hex bytes.now }
-    ensures bound { length lines.new ≤ length lines.old + (2 * length bytes.now + 1) }
+fn put_hex<B: Buffer>(lines: &mut B, bytes: &[u8])
+    requires { length (B.content lines.old) + (2 * length bytes.now + 1) ≤ B.capacity lines.old }
+    ensures printed { B.content lines.new ≡ B.content lines.old ++ hex bytes.now }
+    ensures bound { length (B.content lines.new)
+        ≤ length (B.content lines.old) + (2 * length bytes.now + 1) }
+    ensures capacity { B.capacity lines.old ≤ B.capacity lines.new }
 {
     if bytes.is_empty() {
         lines.extend(b"-");
         return;
     }
     for byte in bytes {
-        lines.extend(&[hex_digit(*byte / 16), hex_digit(*byte % 16)]);
-    }
-}
-
-fn hex_digit(number: u8) -> u8
-    requires { number < 16 }
-    ensures { result ≡ hex_digit number }
-{
-    if number < 10 {
-        b'0' + number
-    } else {
-        b'a' + (number - 10)
+        lines.extend(&hex_pair(*byte));
     }
 }

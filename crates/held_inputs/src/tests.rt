@@ -9,7 +9,7 @@ use std::process::Abort;
 use std::test::*;
 
 fn prints(rt: &impl Abort, line: Line, want: &[u8])
-    requires { room_of line ≤ 37 }
+    requires { room_of line ≤ LONGEST_LINE }
 {
     let mut lines = Lines::new();
     put_line(&mut lines, line);

@@ -4,7 +4,7 @@ use Rattle.std.specs.Fmt as decimals
 use Rattle.share_base.specs.declared.reason.Reason.TheVariants as reason
 use Rattle.hello_states.specs.declared.part_cause.PartCause.TheVariants as cause
 use Rattle.hello_states.specs.Causes.{cause_text}
-use Rattle.hello_states.specs.Phases.{Joined, Parting, is_silent}
+use Rattle.hello_states.specs.Phases.{Joined, Parting, is_silent, closing_time}
 use Rattle.hello_states.specs.Handshake.{Refused, Admitted, hello_answer, greeting_at, shape_of_info, asked_after_info}
 
 -- screen 1 is used, and no other
@@ -44,11 +44,15 @@ last_column = refl
 past_last_column : shape_of_info (pos 2) (pos 0) 32767 1 ≡ None
 past_last_column = refl
 
+-- a handshake has 30 seconds, and a parting 5
 silent_in_time : is_silent (greeting_at 0) 29999 ≡ false
 silent_in_time = refl
 
 silent : is_silent (greeting_at 0) 30000 ≡ true
 silent = refl
+
+closes : closing_time ≡ 5000
+closes = refl
 
 bad_frame : cause_text (cause.Bad 44 reason.TooLong) ≡ codes "bad 44 toolong"
 unfolding decimals.digits

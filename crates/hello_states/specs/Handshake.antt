@@ -1,7 +1,7 @@
 -- What each phase becomes: by the answer to the greeting, by a screen's information, and by a cause of parting.
-use Rattle.std.specs.Prelude.{ℕ, ℤ, pos, negsuc, ◌+ℤ◌, ◌≤ℤ◌, int_le, Bool, ◌&&◌, ◌==◌, nat_le, if◌then◌else◌, Option, Some, None}
+use Rattle.std.specs.Prelude.{ℕ, ℤ, pos, ◌+ℤ◌, int_le, Bool, ◌&&◌, ◌==◌, nat_le, if◌then◌else◌, Option, Some, None}
 use Rattle.share_base.specs.declared.shape.Shape.{Shape}
-use Rattle.keepalive_clock.specs.Moments.{moment_of}
+use Rattle.share_base.specs.Moments.{moment_of}
 use Rattle.keepalive_clock.specs.KeepAlive as keep_alive
 use Rattle.hello_states.specs.declared.part_cause.PartCause.{PartCause}
 use Rattle.hello_states.specs.declared.part_cause.PartCause.TheVariants as cause
@@ -44,13 +44,6 @@ after_hello (Admitted screen) accepted rate now = Asked (record { screen = scree
 -- so many pixels from the first one: some, and with coordinates of two bytes
 abbrev pub is_span : ℤ → ℕ → Bool
 is_span first count = nat_le 1 count && nat_le count 32767 && int_le (first +ℤ pos count) (pos 32768)
-
--- the same as facts, of a first coordinate of two bytes
-pub record IsSpan (first : ℤ) (count : ℕ) : Type 0 where
-  pub some : pos 1 ≤ℤ pos count
-  pub most : pos count ≤ℤ pos 32767
-  pub low : negsuc 32767 ≤ℤ first
-  pub high : (first +ℤ pos count) ≤ℤ pos 32768
 
 -- the shape that an information tells, where a screen can have it
 abbrev pub shape_of_info : ℤ → ℤ → ℕ → ℕ → Option Shape

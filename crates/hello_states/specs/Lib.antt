@@ -1,7 +1,7 @@
 pub mod Causes
 pub mod Phases
 pub mod Handshake
-pub mod Kept
-pub mod Answering
-pub mod Informing
-pub mod Lending
+pub mod TypedPhases
+pub mod Answers
+pub mod Information
+pub mod Loans

@@ -3,6 +3,7 @@ use Rattle.std.specs.Prelude.{ℕ, ◌+◌, Bool, true, false, nat_le, Option, S
 use Rattle.share_base.specs.declared.shape.Shape.{Shape}
 use Rattle.keepalive_clock.specs.declared.alive.Alive.{Alive}
 use Rattle.keepalive_clock.specs.KeepAlive as keep_alive
+use Rattle.hello_states.specs.declared.deadlines.TheConstants.{HANDSHAKE_TIME, CLOSING_TIME}
 use Rattle.hello_states.specs.declared.part_cause.PartCause.{PartCause}
 
 -- a screen that was asked for its information, the moment of its acceptance, and the rate that its keep-alive will have
@@ -48,11 +49,11 @@ joined_shape _ = None
 
 -- how long after its acceptance a connection that hasn't joined is waited for
 abbrev pub handshake_time : ℕ
-handshake_time = 30000
+handshake_time = HANDSHAKE_TIME
 
 -- how long after its parting a connection stays open for what is still to be written
 abbrev pub closing_time : ℕ
-closing_time = 5000
+closing_time = CLOSING_TIME
 
 -- the moment from which on a connection that hasn't joined is silent
 abbrev pub silence_of : Phase → Option ℕ

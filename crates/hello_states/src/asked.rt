@@ -1,18 +1,19 @@
 //! A connection that answered as a screen and is to tell its shape.
 
 ghost use Rattle.std.specs.Prelude.{◌≡◌, ◌≤◌, ◌<◌};
-ghost use Rattle.keepalive_clock.specs.Moments.{last_moment};
+ghost use Rattle.share_base.specs.Moments.{last_moment};
+ghost use Rattle.screen_config.specs.Sound.{most_screens};
 ghost use Rattle.hello_states.specs.Phases.{Asked as in_asked};
-ghost use Rattle.hello_states.specs.Kept.{asked_phase, parting_phase};
+ghost use Rattle.hello_states.specs.TypedPhases.{asked_phase, parting_phase};
 ghost use Rattle.hello_states.specs.Handshake.{parting_for, asked_after_info};
-ghost use Rattle.hello_states.specs.Informing.{shape_in, phase_informed, serial_informed};
+ghost use Rattle.hello_states.specs.Information.{shape_in, phase_informed, serial_informed};
 
 use crate::info_fields::InfoFields;
 use crate::joined::Joined;
 use crate::part_cause::PartCause;
 use crate::parting::Parting;
-use keepalive_clock::{Alive, moment_of};
-use share_base::ScreenNo;
+use keepalive_clock::Alive;
+use share_base::{ScreenNo, moment_of};
 use std::marker::Model;
 
 /// A connection that was admitted as a screen and was asked for the screen's information. It keeps the
@@ -36,8 +37,9 @@ pub enum Informed {
 
 impl Model for Asked {
     ghost use Rattle.std.specs.Prelude.{◌≤◌, ◌<◌};
-    ghost use Rattle.keepalive_clock.specs.Moments.{last_moment};
-    ghost use Rattle.hello_states.specs.Kept.{AskedParts};
+    ghost use Rattle.share_base.specs.Moments.{last_moment};
+    ghost use Rattle.screen_config.specs.Sound.{most_screens};
+    ghost use Rattle.hello_states.specs.TypedPhases.{AskedParts};
 
     ghost Value = { AskedParts };
 
@@ -46,12 +48,12 @@ impl Model for Asked {
       asked = record { screen = a.screen.0; accepted = a.accepted; rate = a.rate };
     } };
 
-    ghost invariant = { λ a. (a.screen.0 < 64) × (a.accepted ≤ last_moment) };
+    ghost invariant = { λ a. (a.screen.0 < most_screens) × (a.accepted ≤ last_moment) };
 }
 
 impl Asked {
     pub(crate) fn new(serial: u64, screen: ScreenNo, accepted: u64, rate: u32) -> Asked
-        requires screen { screen.0 < 64 }
+        requires screen { screen.0 < most_screens }
         requires moment { accepted ≤ last_moment }
         ensures phase { asked_phase result ≡ in_asked (record { screen = screen.0; accepted = accepted; rate = rate }) }
         ensures serial { result.serial ≡ serial }
@@ -100,7 +102,7 @@ impl Asked {
     /// Returns the screen as which it was admitted, a number below 64.
     pub fn screen(&self) -> ScreenNo
         ensures value { result.0 ≡ self.now.asked.screen }
-        ensures bound { result.0 < 64 }
+        ensures bound { result.0 < most_screens }
     {
         self.screen
     }

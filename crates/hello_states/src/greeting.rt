@@ -2,17 +2,18 @@
 
 ghost use Rattle.std.specs.Prelude.{◌≡◌, ◌≤◌, ◌<◌, IfOk};
 ghost use Rattle.share_base.specs.Screens.{has};
-ghost use Rattle.keepalive_clock.specs.Moments.{last_moment};
-ghost use Rattle.hello_states.specs.Kept.{greeting_phase, parting_phase};
-ghost use Rattle.hello_states.specs.Handshake.{greeting_at, parting_for, after_hello, is_admitted};
-ghost use Rattle.hello_states.specs.Answering.{answer_under, rate_under, answer_of, phase_answered, serial_answered};
+ghost use Rattle.share_base.specs.Moments.{last_moment};
+ghost use Rattle.screen_config.specs.Sound.{most_screens};
+ghost use Rattle.hello_states.specs.TypedPhases.{greeting_phase, parting_phase};
+ghost use Rattle.hello_states.specs.Handshake.{greeting_at, parting_for, after_hello};
+ghost use Rattle.hello_states.specs.Answers.{answer_under, rate_under, answer_of, phase_answered, serial_answered};
 
 use crate::asked::Asked;
-use crate::part_cause::{PROTOCOL_MAJOR, PROTOCOL_MINOR, PartCause};
+use crate::part_cause::PartCause;
 use crate::parting::Parting;
+use crate::version::is_admitted;
 use screen_config::Config;
-use keepalive_clock::moment_of;
-use share_base::{ScreenNo, ScreenSet};
+use share_base::{ScreenNo, ScreenSet, moment_of};
 use std::marker::Model;
 
 /// A connection that was accepted and greeted, and whose answer is awaited.
@@ -33,8 +34,8 @@ pub enum Answered {
 
 impl Model for Greeting {
     ghost use Rattle.std.specs.Prelude.{◌≤◌};
-    ghost use Rattle.keepalive_clock.specs.Moments.{last_moment};
-    ghost use Rattle.hello_states.specs.Kept.{GreetingParts};
+    ghost use Rattle.share_base.specs.Moments.{last_moment};
+    ghost use Rattle.hello_states.specs.TypedPhases.{GreetingParts};
 
     ghost Value = { GreetingParts };
 
@@ -119,7 +120,7 @@ fn admitted_screen(
     used: &ScreenSet,
 ) -> Result<ScreenNo, PartCause>
     ensures answer { answer_of result ≡ answer_under config.now used.now major minor name.now }
-    ensures below { IfOk result (λ n. n.0 < 64) }
+    ensures below { IfOk result (λ n. n.0 < most_screens) }
 {
     if !is_admitted(major, minor) {
         return Err(PartCause::Version);
@@ -132,10 +133,4 @@ fn admitted_screen(
         return Err(PartCause::Busy);
     }
     Ok(screen)
-}
-
-fn is_admitted(major: u16, minor: u16) -> bool
-    ensures { result ≡ is_admitted major minor }
-{
-    major == PROTOCOL_MAJOR && minor == PROTOCOL_MINOR
 }

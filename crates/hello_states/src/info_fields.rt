@@ -3,8 +3,8 @@
 ghost use Rattle.std.specs.Prelude.{◌≡◌, IfSome};
 ghost use Rattle.std.specs.Bool.{OnTrue};
 ghost use Rattle.share_base.specs.Shapes.{IsScreenShape};
-ghost use Rattle.hello_states.specs.Handshake.{is_span, IsSpan};
-ghost use Rattle.hello_states.specs.Informing.{shape_in};
+ghost use Rattle.hello_states.specs.Handshake.{is_span};
+ghost use Rattle.hello_states.specs.Information.{shape_in, IsSpan};
 
 use share_base::Shape;
 

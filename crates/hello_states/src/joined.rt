@@ -3,11 +3,12 @@
 ghost use Rattle.std.specs.Prelude.{◌≡◌, ◌<◌};
 ghost use Rattle.std.specs.Borrow.{sem};
 ghost use Rattle.share_base.specs.Shapes.{IsScreenShape};
+ghost use Rattle.screen_config.specs.Sound.{most_screens};
 ghost use Rattle.hello_states.specs.Phases.{Joined as in_joined};
-ghost use Rattle.hello_states.specs.Kept.{joined_phase, parting_phase};
+ghost use Rattle.hello_states.specs.TypedPhases.{joined_phase, parting_phase};
 ghost use Rattle.hello_states.specs.Handshake.{parting_for, joined_after_info};
-ghost use Rattle.hello_states.specs.Informing.{shape_in, phase_informed, serial_informed};
-ghost use Rattle.hello_states.specs.Lending.{LendsAlive};
+ghost use Rattle.hello_states.specs.Information.{shape_in, phase_informed, serial_informed};
+ghost use Rattle.hello_states.specs.Loans.{LendsAlive};
 
 use crate::asked::Informed;
 use crate::info_fields::InfoFields;
@@ -29,7 +30,8 @@ pub struct Joined {
 impl Model for Joined {
     ghost use Rattle.std.specs.Prelude.{◌<◌};
     ghost use Rattle.share_base.specs.Shapes.{IsScreenShape};
-    ghost use Rattle.hello_states.specs.Kept.{JoinedParts};
+    ghost use Rattle.screen_config.specs.Sound.{most_screens};
+    ghost use Rattle.hello_states.specs.TypedPhases.{JoinedParts};
 
     ghost Value = { JoinedParts };
 
@@ -38,12 +40,12 @@ impl Model for Joined {
       joined = record { screen = j.screen.0; shape = j.shape; alive = j.alive };
     } };
 
-    ghost invariant = { λ j. (j.screen.0 < 64) × IsScreenShape j.shape };
+    ghost invariant = { λ j. (j.screen.0 < most_screens) × IsScreenShape j.shape };
 }
 
 impl Joined {
     pub(crate) fn new(serial: u64, screen: ScreenNo, shape: Shape, alive: Alive) -> Joined
-        requires screen { screen.0 < 64 }
+        requires screen { screen.0 < most_screens }
         requires shape { IsScreenShape shape }
         ensures phase { joined_phase result ≡ in_joined (record { screen = screen.0; shape = shape; alive = alive }) }
         ensures serial { result.serial ≡ serial }
@@ -88,7 +90,7 @@ impl Joined {
     /// Returns the screen that is joined, a number below 64.
     pub fn screen(&self) -> ScreenNo
         ensures value { result.0 ≡ self.now.joined.screen }
-        ensures bound { result.0 < 64 }
+        ensures bound { result.0 < most_screens }
     {
         self.screen
     }

@@ -9,6 +9,7 @@
 #![tactic(auto)]
 
 mod asked;
+mod deadlines;
 mod greeting;
 mod info_fields;
 mod joined;
@@ -16,10 +17,13 @@ mod part_cause;
 mod parting;
 #[cfg(test)]
 mod tests;
+mod version;
 
 pub use asked::{Asked, Informed};
+pub use deadlines::{CLOSING_TIME, HANDSHAKE_TIME};
 pub use greeting::{Answered, Greeting};
 pub use info_fields::InfoFields;
 pub use joined::Joined;
-pub use part_cause::{PROTOCOL_MAJOR, PROTOCOL_MINOR, PartCause};
+pub use part_cause::{CAUSE_LENGTH, PartCause};
 pub use parting::Parting;
+pub use version::{PROTOCOL_MAJOR, PROTOCOL_MINOR};

@@ -1,16 +1,14 @@
 //! Why a connection parts.
 
-ghost use Rattle.std.specs.Prelude.{◌≡◌};
+ghost use Rattle.std.specs.Prelude.{◌≡◌, ◌+◌, ◌≤◌, ◌++◌, length};
 ghost use Rattle.hello_states.specs.Causes as spec;
 
+use crate::version::{PROTOCOL_MAJOR, PROTOCOL_MINOR};
 use message_codec::Msg;
-use share_base::Reason;
+use share_base::{Buffer, Reason, put_u64};
 
-/// The protocol's major version, which a refusal names.
-pub const PROTOCOL_MAJOR: u16 = 1;
-
-/// The protocol's minor version, which a refusal names.
-pub const PROTOCOL_MINOR: u16 = 6;
+/// The length of the longest text of a cause: `bad`, a number of 20 digits and `trailing`, between blanks.
+pub const CAUSE_LENGTH: usize = 33;
 
 /// Why a connection parts. After the first six causes what is queued is still written, after the others
 /// it is dropped.
@@ -63,9 +61,24 @@ impl PartCause {
         )
     }
 
-    /// Returns the first word of the cause as the log prints it. Of a bad frame the log prints the place
-    /// and the reason after it.
-    pub fn word(self) -> &'static [u8]
+    /// Appends the cause as the log prints it: its word, and for a bad frame the place and the reason of
+    /// the frame. These are at most `CAUSE_LENGTH` bytes, which have to fit.
+    pub fn put_text<B: Buffer>(self, out: &mut B)
+        requires { length (B.content out.old) + CAUSE_LENGTH ≤ B.capacity out.old }
+        ensures printed { B.content out.new ≡ B.content out.old ++ spec.cause_text self }
+        ensures bound { length (B.content out.new) ≤ length (B.content out.old) + CAUSE_LENGTH }
+        ensures capacity { B.capacity out.old ≤ B.capacity out.new }
+    {
+        out.extend(self.word());
+        if let PartCause::Bad { place, reason } = self {
+            out.extend(b" ");
+            put_u64(out, place);
+            out.extend(b" ");
+            out.extend(reason.text());
+        }
+    }
+
+    fn word(self) -> &'static [u8]
         ensures { result.now ≡ spec.cause_word self }
     {
         match self {

@@ -1,12 +1,12 @@
 //! A connection that is closed as soon as it may.
 
 ghost use Rattle.std.specs.Prelude.{◌≡◌, ◌≤◌};
-ghost use Rattle.keepalive_clock.specs.Moments.{last_moment};
-ghost use Rattle.hello_states.specs.Kept.{parting_phase};
+ghost use Rattle.share_base.specs.Moments.{last_moment};
+ghost use Rattle.hello_states.specs.TypedPhases.{parting_phase};
 ghost use Rattle.hello_states.specs.Handshake.{parting_for};
 
 use crate::part_cause::PartCause;
-use keepalive_clock::moment_of;
+use share_base::moment_of;
 use std::marker::Model;
 
 /// A connection that parts. It takes no input: it has no call for a message, nor for anything else that
@@ -20,8 +20,8 @@ pub struct Parting {
 
 impl Model for Parting {
     ghost use Rattle.std.specs.Prelude.{◌≤◌};
-    ghost use Rattle.keepalive_clock.specs.Moments.{last_moment};
-    ghost use Rattle.hello_states.specs.Kept.{PartingParts};
+    ghost use Rattle.share_base.specs.Moments.{last_moment};
+    ghost use Rattle.hello_states.specs.TypedPhases.{PartingParts};
 
     ghost Value = { PartingParts };
 

@@ -1,7 +1,7 @@
 -- When the next beat of a keep-alive is due, and when the peer counts as dead.
 use Rattle.std.specs.Prelude.{ℕ, ◌+◌, ◌*◌, min, Bool, not, ◌&&◌, ◌==◌, nat_le, if◌then◌else◌, Option, Some, None}
 use Rattle.keepalive_clock.specs.declared.alive.Alive.{Alive}
-use Rattle.keepalive_clock.specs.Moments.{moment_of}
+use Rattle.share_base.specs.Moments.{moment_of}
 
 -- at a rate of 0 there are neither beats nor deaths
 abbrev pub beats : Alive → Bool

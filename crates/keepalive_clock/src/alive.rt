@@ -3,7 +3,7 @@
 ghost use Rattle.std.specs.Prelude.{◌≡◌};
 ghost use Rattle.keepalive_clock.specs.KeepAlive.{beat_moment, death_moment, due_moment, death_of, is_beat_due, is_dead, after_beat, after_hearing};
 
-use crate::moments::moment_of;
+use share_base::moment_of;
 
 /// How many rates may pass without a message of the peer.
 const RATES_UNTIL_DEATH: u64 = 3;
@@ -13,9 +13,9 @@ const RATES_UNTIL_DEATH: u64 = 3;
 /// moment above `LAST_MOMENT`, given or kept, counts as that moment. No method allocates.
 #[derive(Clone, Copy, Debug, PartialEq, Eq)]
 pub struct Alive {
-    /// The moment of the last beat, or that of joining.
+    /// The moment of the last beat, or of the beginning.
     pub sent: u64,
-    /// The moment of the last whole message of the peer, or that of joining.
+    /// The moment of the last whole message of the peer, or of the beginning.
     pub heard: u64,
     /// Milliseconds between two beats. The peer is dead after three times as many without a message;
     /// 0 for neither beats nor deaths.
@@ -31,7 +31,7 @@ impl Alive {
         if self.rate == 0 {
             return None;
         }
-        Some(self.next_beat().min(self.last_hope()))
+        Some(self.beat_moment().min(self.death_moment()))
     }
 
     /// Returns the moment from which on the peer counts as dead. `None` if and only if the rate is 0.
@@ -41,7 +41,7 @@ impl Alive {
         if self.rate == 0 {
             return None;
         }
-        Some(self.last_hope())
+        Some(self.death_moment())
     }
 
     /// Tells whether a beat is due at that moment, and if so counts it as sent then: however late it
@@ -51,7 +51,7 @@ impl Alive {
         ensures sent { self.new ≡ after_beat self.old now }
     {
         let moment = moment_of(now);
-        if self.rate == 0 || moment < self.next_beat() {
+        if self.rate == 0 || moment < self.beat_moment() {
             return false;
         }
         self.sent = moment;
@@ -69,16 +69,16 @@ impl Alive {
     pub fn dead(&self, now: u64) -> bool
         ensures { result ≡ is_dead self.now now }
     {
-        self.rate > 0 && moment_of(now) >= self.last_hope()
+        self.rate > 0 && moment_of(now) >= self.death_moment()
     }
 
-    fn next_beat(&self) -> u64
+    fn beat_moment(&self) -> u64
         ensures { result ≡ beat_moment self.now }
     {
         moment_of(self.sent) + self.rate as u64
     }
 
-    fn last_hope(&self) -> u64
+    fn death_moment(&self) -> u64
         ensures { result ≡ death_moment self.now }
     {
         moment_of(self.heard) + RATES_UNTIL_DEATH * self.rate as u64

@@ -1,14 +1,11 @@
 //! The keep-alive of one connection: when the next beat is due, and when the peer counts as dead.
 //!
-//! It owns moments and their upper end (`specs/Moments.antt`) and the deadlines of a keep-alive
-//! (`specs/KeepAlive.antt`). It may know no connection, no message and no clock: each call is given
-//! the moment. No call allocates.
+//! It owns the deadlines of a keep-alive (`specs/KeepAlive.antt`). It may know no connection, no message
+//! and no clock: each call is given the moment. No call allocates.
 #![tactic(auto)]
 
 mod alive;
-mod moments;
 #[cfg(test)]
 mod tests;
 
 pub use alive::Alive;
-pub use moments::{LAST_MOMENT, moment_of};

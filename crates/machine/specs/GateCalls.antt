@@ -9,7 +9,7 @@ use Rattle.edge_cross.specs.declared.gate.GateAnswer.{GateAnswer}
 use Rattle.edge_cross.specs.declared.gate.GateAnswer.TheVariants.{Pass}
 use Rattle.edge_cross.specs.declared.gate.Waiting.{Waiting}
 use Rattle.edge_cross.specs.declared.gate.Tap.{Tap}
-use Rattle.edge_cross.specs.Gates.{Call, Ask, Away, gate_answer, gate_wait, kept_tap}
+use Rattle.edge_cross.specs.Gates.{Call, Away, asked, gate_answer, gate_wait, kept_tap}
 use Rattle.machine.specs.States.{State}
 
 -- both in milliseconds
@@ -48,4 +48,4 @@ abbrev pub hear_away : State → State
 hear_away s = record s { gate_calls = Away ∷ s.gate_calls }
 
 abbrev pub hear_ask : Side → State → State
-hear_ask side s = record s { gate_calls = Ask s.at side ∷ before_ask s side }
+hear_ask side s = record s { gate_calls = asked s.at side ∷ before_ask s side }

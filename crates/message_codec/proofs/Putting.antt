@@ -6,6 +6,8 @@ use Rattle.std.specs.Int.{w32, to_be_bytes}
 use Rattle.std.proofs.lemmas.Grind.{flat_map-append}
 use Rattle.std.proofs.lemmas.List.{append-nil, length-append}
 use Rattle.std.proofs.lemmas.List.Concat.{flat_map-cons}
+use Rattle.share_base.specs.Fronts.{IsFront}
+use Rattle.share_base.proofs.Fronts.{front_of_longer}
 use Rattle.message_codec.specs.Fields.{spelled, Fits, Words}
 
 pub take_one : {A : Type 0} (xs : List A) (i : ℕ) (x : A) → slice_get xs i ≡ Some x → take (i + 1) xs ≡ take i xs ++ x ∷ []
@@ -66,3 +68,7 @@ words_fit ns le small = (words_are_few ns le, small)
 pub always : {T E P : Type 0} (r : Result T E) → P → OnOk r P
 always (Ok x) p = p
 always (Err e) p = tt
+
+-- on an error a loop leaves what stood there before it at the front
+pub front_of_loop : (old text more out new : List ℕ) → out ≡ (old ++ text) ++ more → IsFront out new → IsFront old new
+front_of_loop old text more out new so_far begins = front_of_longer old (text ++ more) out new (so_far ∙ append_assoc old text more) begins

@@ -10,12 +10,12 @@ use Rattle.message_codec.specs.declared.faults.DecodeFault.{DecodeFault}
 use Rattle.message_codec.specs.declared.faults.DecodeFault.TheVariants as fault
 use Rattle.message_codec.specs.Fields.{Field, spelled_all}
 use Rattle.message_codec.specs.Reading.{Read}
-use Rattle.message_codec.specs.Table.{code_of, fields}
+use Rattle.message_codec.specs.Table.{code_of, fields, has_list}
 use Rattle.message_codec.specs.Spelling.{Spells}
 use Rattle.message_codec.specs.Refusals.{is_bad_clip, is_bad_mark, place_of, Misfits, Refuses, RefusedFor}
 use Rattle.message_codec.specs.Decoding.{IsDecoded}
 use Rattle.message_codec.proofs.Readers.{ok_is}
-use Rattle.message_codec.proofs.CodeTexts.{some_is}
+use Rattle.message_codec.proofs.CodeTexts.{some_is, one_code}
 use Rattle.message_codec.proofs.Bodies.{one_reading, one_reading_code, spelled_reads, one_message}
 use Rattle.message_codec.proofs.ReadFaults.{Reads, Faults}
 use Rattle.message_codec.proofs.FaultForms.{to_faults}
@@ -158,4 +158,6 @@ one_refusal from a b body h k = one_fault from a b body (to_faults a from body h
 pub spelled_is_decoded : (from : End) (m : Msg) (body : List ℕ) (answer : Result Msg DecodeFault) → Spells from m body → IfOk answer (λ n. Spells from n body) → IfErr answer (λ why. RefusedFor why from body) → IsDecoded m answer
 spelled_is_decoded from m body (Ok n) spells found refused = one_message from n m body found spells
 spelled_is_decoded from m body (Err (fault.Bad why)) spells found refused = refused_spells_none from why m body refused spells
-spelled_is_decoded from m body (Err fault.OutOfMemory) spells found refused = tt
+spelled_is_decoded from m body (Err fault.OutOfMemory) spells found refused =
+    let same : refused.code ≡ code_of m = one_code from refused.code (code_of m) refused.rest (spelled_all (fields m)) refused.sent spells.sent (sym refused.begins ∙ spells.body_is) in
+    sym (ap has_list same) ∙ refused.list

@@ -9,7 +9,7 @@ use Rattle.message_codec.specs.declared.drafts.Draft.TheVariants as draft
 use Rattle.message_codec.specs.declared.reading.ReadError.{ReadError}
 use Rattle.message_codec.specs.Fields.{Field, Word, Clip, Mark, Text}
 use Rattle.message_codec.specs.Reading.{Read, Fails}
-use Rattle.message_codec.specs.Table.{code_of, fields}
+use Rattle.message_codec.specs.Table.{code_of, fields, has_list}
 
 abbrev pub draft_code : Draft → Code
 draft_code (draft.Grab clip seq) = code.Grab
@@ -25,12 +25,12 @@ draft_fields (draft.Ready m) = fields m
 abbrev pub IsDraftOf : Msg → Draft → Type 0
 IsDraftOf m d = (code_of m ≡ draft_code d) × (fields m ≡ draft_fields d)
 
--- the message that a function returned, and the bytes after it, are what reading gives
+-- the message that a function returned, and the bytes after it, are what reading gives; memory is taken for a row with a string or a list alone
 abbrev pub GivesMsg : Code → Result (Msg × Bor (List ℕ)) ReadError → Read (List Field) → Type 0
 GivesMsg c (Ok x) read = (code_of x.0 ≡ c) × (read ≡ Ok (fields x.0, x.1.now))
-GivesMsg c (Err e) read = Fails e read
+GivesMsg c (Err e) read = Fails (has_list c) e read
 
 -- the same of a draft
 abbrev pub GivesDraft : Code → Result (Draft × Bor (List ℕ)) ReadError → Read (List Field) → Type 0
 GivesDraft c (Ok x) read = (draft_code x.0 ≡ c) × (read ≡ Ok (draft_fields x.0, x.1.now))
-GivesDraft c (Err e) read = Fails e read
+GivesDraft c (Err e) read = Fails (has_list c) e read

@@ -1,5 +1,5 @@
 -- Reading fields from left to right. Where a part of one doesn't fit, the answer is how many bytes were left there.
-use Rattle.std.specs.Prelude.{◌≡◌, ℕ, ℤ, zero, suc, List, [], ◌∷◌, length, take, drop, Result, Ok, Err, nat_lt, if◌then◌else◌}
+use Rattle.std.specs.Prelude.{◌≡◌, ℕ, ℤ, zero, suc, Bool, true, List, [], ◌∷◌, length, take, drop, Result, Ok, Err, nat_lt, if◌then◌else◌}
 use Rattle.std.specs.Int.{Width, w16, w32, byte_len, from_be_bytes, cast_signed}
 use Rattle.message_codec.specs.declared.reading.ReadError.{ReadError}
 use Rattle.message_codec.specs.declared.reading.ReadError.TheVariants as errors
@@ -16,15 +16,15 @@ abbrev pub ◌>>=◌ : {A B : Type 0} → Result A ℕ → (A → Result B ℕ) 
 (Ok x) >>= f = f x
 (Err left) >>= f = Err left
 
--- what a function that fails for want of bytes, or of memory, says of what reading gives
-abbrev pub Fails : {Y : Type 0} → ReadError → Result Y ℕ → Type 0
-Fails (errors.Short left) read = read ≡ Err left
-Fails errors.Memory read = Unit {0}
+-- why a function failed: reading fails with so many bytes left, or memory could not be had, where it takes any
+abbrev pub Fails : {Y : Type 0} → Bool → ReadError → Result Y ℕ → Type 0
+Fails takes_memory (errors.Short left) read = read ≡ Err left
+Fails takes_memory errors.Memory read = takes_memory ≡ true
 
 -- what a function returned, seen by view, is what reading gives
-abbrev pub Gives : {X Y : Type 0} → (X → Y) → Result X ReadError → Result Y ℕ → Type 0
-Gives view (Ok x) read = read ≡ Ok (view x)
-Gives view (Err e) read = Fails e read
+abbrev pub Gives : {X Y : Type 0} → Bool → (X → Y) → Result X ReadError → Result Y ℕ → Type 0
+Gives takes_memory view (Ok x) read = read ≡ Ok (view x)
+Gives takes_memory view (Err e) read = Fails takes_memory e read
 
 abbrev pub number_at : Width → List ℕ → Read ℕ
 number_at w bytes = if nat_lt (length bytes) (byte_len w) then Err (length bytes) else Ok (from_be_bytes w (take (byte_len w) bytes), drop (byte_len w) bytes)

@@ -1,5 +1,5 @@
 -- Why a body spells no message.
-use Rattle.std.specs.Prelude.{◌≡◌, ℕ, ◌+◌, ◌<◌, ◌^◌, ◌⊎◌, Bool, false, nat_lt, ◌||◌, List, [], ◌∷◌, ◌++◌, length, map, take, position, Some, None}
+use Rattle.std.specs.Prelude.{◌≡◌, ℕ, ◌+◌, ◌<◌, ◌^◌, ◌⊎◌, Bool, true, false, nat_lt, ◌||◌, List, [], ◌∷◌, ◌++◌, length, map, take, position, Some, None}
 use Rattle.std.specs.List.{flat_map, AllByRecursion}
 use Rattle.std.specs.Int.{w32, to_be_bytes}
 use Rattle.message_codec.specs.declared.messages.End.{End}
@@ -11,7 +11,7 @@ use Rattle.message_codec.specs.declared.faults.DecodeFault.TheVariants as fault
 use Rattle.message_codec.specs.Kinds.{Kind}
 use Rattle.message_codec.specs.Kinds as kind
 use Rattle.message_codec.specs.Fields.{Field, Byte, Half, Signed, Word, Clip, Mark, Text, Words, kind_of, Fits, spelled_all}
-use Rattle.message_codec.specs.Table.{text, SentBy, kinds}
+use Rattle.message_codec.specs.Table.{text, SentBy, kinds, has_list}
 
 -- the body is a code that this end sends, then these fields, and then a rest
 pub record Begins (from : End) (body : List ℕ) (c : Code) (fs : List Field) (rest : List ℕ) : Type 0 where
@@ -102,7 +102,15 @@ Refuses (bad.Trailing at) from body = (c : Code) × (fs : List Field) × (rest :
 Refuses (bad.BadClip at) from body = (c : Code) × (fs : List Field) × Whole from body c fs [] × Misfits (bad.BadClip at) c fs
 Refuses (bad.BadMark at) from body = (c : Code) × (fs : List Field) × Whole from body c fs [] × Misfits (bad.BadMark at) c fs
 
--- a fault of decoding has its cause in the body; want of memory has none
+-- the body begins with the code of a row with a string or a list, which this end sends
+pub record TakesMemory (from : End) (body : List ℕ) : Type 0 where
+  pub code : Code
+  pub rest : List ℕ
+  pub sent : SentBy code from
+  pub begins : body ≡ text code ++ rest
+  pub list : has_list code ≡ true
+
+-- a fault of decoding has its cause in the body, and no memory is wanted for a body without strings and lists
 abbrev pub RefusedFor : DecodeFault → End → List ℕ → Type 0
 RefusedFor (fault.Bad why) from body = Refuses why from body
-RefusedFor fault.OutOfMemory from body = Unit {0}
+RefusedFor fault.OutOfMemory from body = TakesMemory from body

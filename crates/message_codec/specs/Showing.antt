@@ -1,27 +1,17 @@
 -- The line that a message is shown as.
-use Rattle.std.specs.Prelude.{ℕ, ◌+◌, ◌/◌, ◌%◌, List, [], ◌∷◌, ◌++◌, length, codes, nat_lt, if◌then◌else◌}
+use Rattle.std.specs.Prelude.{ℕ, List, ◌∷◌, ◌++◌, length}
 use Rattle.std.specs.Fmt.{decimal, signed_decimal}
 use Rattle.std.specs.List.{flat_map}
+use Rattle.share_base.specs.Hex.{hex}
 use Rattle.message_codec.specs.declared.messages.Msg.{Msg}
 use Rattle.message_codec.specs.Fields.{Field, Byte, Half, Signed, Word, Clip, Mark, Text, Words}
 use Rattle.message_codec.specs.Table.{text, code_of, fields}
 
--- 0 to 9, and then a to f
-abbrev pub hex_digit : ℕ → ℕ
-hex_digit n = if nat_lt n 10 then 48 + n else 87 + n
-
-abbrev pub hex_pair : ℕ → List ℕ
-hex_pair byte = hex_digit (byte / 16) ∷ hex_digit (byte % 16) ∷ []
-
--- a pair of digits for each byte; where there is none, a dash
-abbrev pub hex : List ℕ → List ℕ
-hex [] = codes "-"
-hex (byte ∷ bytes) = flat_map hex_pair (byte ∷ bytes)
-
+-- a word after a blank
 abbrev pub after_blank : List ℕ → List ℕ
 after_blank word = 32 ∷ word
 
--- integers are decimal; a string is in HEX; a list has its count first
+-- integers are decimal, a string is in hexadecimal digits, and a list has its count first
 abbrev pub shown : Field → List ℕ
 shown (Byte n) = decimal n
 shown (Half n) = decimal n

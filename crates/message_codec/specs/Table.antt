@@ -1,5 +1,6 @@
 -- The table of messages: what each begins with, who sends it, and its fields.
-use Rattle.std.specs.Prelude.{◌≡◌, ℕ, List, [], ◌∷◌, codes}
+use Rattle.std.specs.Prelude.{◌≡◌, ℕ, Bool, true, false, List, [], ◌∷◌, codes}
+use Rattle.std.specs.List.{list_any}
 use Rattle.share_base.specs.Clips.{clip_number}
 use Rattle.message_codec.specs.declared.messages.End.{End}
 use Rattle.message_codec.specs.declared.messages.End.TheVariants as ends
@@ -97,6 +98,21 @@ text c = (row c).text
 
 abbrev pub kinds : Code → List Kind
 kinds c = (row c).kinds
+
+-- whether fields of that kind are copied into memory of their own: strings and lists
+abbrev pub is_list : Kind → Bool
+is_list kind.text = true
+is_list kind.words = true
+is_list kind.byte = false
+is_list kind.half = false
+is_list kind.signed = false
+is_list kind.word = false
+is_list kind.clip = false
+is_list kind.mark = false
+
+-- whether the row has a string or a list
+abbrev pub has_list : Code → Bool
+has_list c = list_any is_list (kinds c)
 
 abbrev pub Sends : Sender → End → Type 0
 Sends server end = end ≡ ends.Server

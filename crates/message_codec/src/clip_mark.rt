@@ -27,7 +27,7 @@ impl ClipMark {
         }
     }
 
-    /// The part of a number. `None` comes exactly for a number other than 1, 2 and 3.
+    /// The part of that number; `None` for a number other than 1, 2 and 3.
     pub fn of(number: u8) -> Option<ClipMark>
         ensures found { IfSome result (λ mark. number ≡ mark_number mark) }
         ensures none { IfNone result ((mark : Mark) → number ≡ mark_number mark → ⊥) }

@@ -11,14 +11,16 @@ use crate::messages::{End, Msg};
 use crate::reading::ReadError;
 use crate::rows::draft_at;
 use std::alloc::Global;
+use wire_frames::BODY_LIMIT;
 
-/// The message that this body spells, sent by that end. The body has at most 4,194,304 bytes. Its
-/// lists are copied into memory that is taken from `alloc`.
+/// Decodes the body of a message sent by `from`, of at most `BODY_LIMIT` bytes. A string or a list is
+/// copied into memory from `alloc`.
 ///
-/// `Bad` comes exactly where no message spells the body, with the first fault in the order of
-/// `BadBody`. `OutOfMemory` comes for want of memory alone.
+/// Answers `Bad` if and only if the body spells no message of that end, with the first fault in the
+/// order of `BadBody`. Answers `OutOfMemory` only for a message with a string or a list: every key,
+/// button, motion, enter and leave message is decoded without memory.
 pub fn decode(alloc: Global, from: End, body: &[u8]) -> Result<Msg, DecodeFault>
-    requires { length body.now ≤ 4194304 }
+    requires { length body.now ≤ BODY_LIMIT }
     ensures found { IfOk result (λ m. Spells from m body.now) }
     ensures bad { IfErr result (λ fault. RefusedFor fault from body.now) }
 {

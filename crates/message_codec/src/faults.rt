@@ -16,29 +16,29 @@ pub enum BadBody {
     /// The other end alone sends that message.
     #[error("the other end sends that message")]
     WrongEnd,
-    /// A part of a field doesn't fit into what is left. An integer is one part, a string is its length
+    /// A part of a field is longer than what is left. An integer is one part, a string is its length
     /// and its bytes, and a list is its count and each of its integers.
     #[error("a field ends too early at {at}")]
     Short {
-        /// Where the part begins.
+        /// The offset of that part.
         at: u32,
     },
     /// Bytes stand after the last field.
     #[error("bytes stand after the last field at {at}")]
     Trailing {
-        /// Where they begin.
+        /// Their offset.
         at: u32,
     },
     /// A clipboard's number is above 1.
     #[error("a clipboard above 1 at {at}")]
     BadClip {
-        /// Where the number stands.
+        /// The offset of the number.
         at: u32,
     },
     /// The number of a clipboard's part is other than 1, 2 and 3.
     #[error("no part of a clipboard at {at}")]
     BadMark {
-        /// Where the number stands.
+        /// The offset of the number.
         at: u32,
     },
 }
@@ -65,7 +65,7 @@ pub enum DecodeFault {
     /// The body spells no message of that end.
     #[error("{0}")]
     Bad(BadBody),
-    /// Memory could not be had.
+    /// Out of memory.
     #[error("out of memory")]
     OutOfMemory,
 }

@@ -1,6 +1,6 @@
 //! Fields read from the front of bytes.
 
-ghost use Rattle.std.specs.Prelude.{◌≡◌, List, length, Ok};
+ghost use Rattle.std.specs.Prelude.{◌≡◌, List, length, Ok, true, false};
 ghost use Rattle.std.specs.Int.{w16, w32};
 ghost use Rattle.message_codec.specs.Reading.{Gives, number_at, signed_at, byte_at, text_at, words_at};
 
@@ -10,9 +10,9 @@ use std::alloc::Global;
 /// Why fields could not be read.
 #[derive(Clone, Copy, Debug, PartialEq, Eq)]
 pub enum ReadError {
-    /// A part of a field didn't fit into the bytes that were left there.
+    /// A part of a field is longer than what is left, which is `left` bytes.
     Short { left: usize },
-    /// Memory could not be had.
+    /// Out of memory.
     Memory,
 }
 
@@ -29,7 +29,7 @@ impl From<OutOfMemory> for ReadError {
 
 /// A number of one byte, and the bytes after it.
 pub fn u8_at(bytes: &[u8]) -> Result<(u8, &[u8]), ReadError>
-    ensures { Gives (λ x. (x.0, x.1.now)) result (byte_at bytes.now) }
+    ensures { Gives false (λ x. (x.0, x.1.now)) result (byte_at bytes.now) }
 {
     match bytes {
         [] => Err(ReadError::Short { left: 0 }),
@@ -39,7 +39,7 @@ pub fn u8_at(bytes: &[u8]) -> Result<(u8, &[u8]), ReadError>
 
 /// A number of two bytes, and the bytes after it.
 pub fn u16_at(bytes: &[u8]) -> Result<(u16, &[u8]), ReadError>
-    ensures { Gives (λ x. (x.0, x.1.now)) result (number_at w16 bytes.now) }
+    ensures { Gives false (λ x. (x.0, x.1.now)) result (number_at w16 bytes.now) }
 {
     if bytes.len() < 2 {
         return Err(ReadError::Short { left: bytes.len() });
@@ -50,7 +50,7 @@ pub fn u16_at(bytes: &[u8]) -> Result<(u16, &[u8]), ReadError>
 
 /// A signed number of two bytes, and the bytes after it.
 pub fn i16_at(bytes: &[u8]) -> Result<(i16, &[u8]), ReadError>
-    ensures { Gives (λ x. (x.0, x.1.now)) result (signed_at bytes.now) }
+    ensures { Gives false (λ x. (x.0, x.1.now)) result (signed_at bytes.now) }
 {
     let (number, rest) = u16_at(bytes)?;
     Ok((number.cast_signed(), rest))
@@ -58,7 +58,7 @@ pub fn i16_at(bytes: &[u8]) -> Result<(i16, &[u8]), ReadError>
 
 /// A number of four bytes, and the bytes after it.
 pub fn u32_at(bytes: &[u8]) -> Result<(u32, &[u8]), ReadError>
-    ensures { Gives (λ x. (x.0, x.1.now)) result (number_at w32 bytes.now) }
+    ensures { Gives false (λ x. (x.0, x.1.now)) result (number_at w32 bytes.now) }
 {
     if bytes.len() < 4 {
         return Err(ReadError::Short { left: bytes.len() });
@@ -71,7 +71,7 @@ pub fn u32_at(bytes: &[u8]) -> Result<(u32, &[u8]), ReadError>
 /// A string: its length, its bytes, and the bytes after it.
 #[tactic(auto, unfolding(crate::specs::Reading::text_at))]
 pub fn octets_at(alloc: Global, bytes: &[u8]) -> Result<(Octets, &[u8]), ReadError>
-    ensures { Gives (λ x. (x.0, x.1.now)) result (text_at bytes.now) }
+    ensures { Gives true (λ x. (x.0, x.1.now)) result (text_at bytes.now) }
 {
     let (len, rest) = u32_at(bytes)?;
     let len = len as usize;
@@ -84,10 +84,10 @@ pub fn octets_at(alloc: Global, bytes: &[u8]) -> Result<(Octets, &[u8]), ReadErr
     Ok((octets, rest))
 }
 
-/// So many numbers of four bytes, and the bytes after them. Memory is taken for each as it comes, so
-/// a count without its numbers takes none.
+/// `count` numbers of four bytes, and the bytes after them. Memory is taken for each number as it is
+/// read, so a count without its numbers takes none.
 pub fn words_of(alloc: Global, count: u32, bytes: &[u8]) -> Result<(Words32, &[u8]), ReadError>
-    ensures { Gives (λ x. (x.0, x.1.now)) result (words_at count bytes.now) }
+    ensures { Gives true (λ x. (x.0, x.1.now)) result (words_at count bytes.now) }
 {
     let mut words = Words32::new(alloc);
     let mut rest = bytes;

@@ -59,8 +59,12 @@ pub record Kept : Type 0 where
   pub bits : List ℕ
   pub toggles : ℕ
 
--- what is kept is what these calls leave
+-- what is kept is the result of these calls
 pub record StandsFor (kept : Kept) (calls : List Call) : Type 0 where
   pub long : length kept.bits ≡ 256
   pub each : (button : ℕ) → button < 256 → slice_get kept.bits button ≡ Some (bit_at calls button)
   pub toggles : kept.toggles ≡ toggles_of calls
+
+-- from every list of calls that it was the result of, this call leads to what is kept now
+abbrev pub Extends : Kept → Kept → Call → Type 0
+Extends old new call = (calls : List Call) → StandsFor old calls → StandsFor new (call ∷ calls)

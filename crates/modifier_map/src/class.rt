@@ -20,7 +20,7 @@ pub enum ModClass {
     Super,
 }
 
-/// What stands for a class.
+/// The row of a class in the table.
 #[derive(Clone, Copy, Debug, PartialEq, Eq)]
 pub struct Row {
     /// Its left key.
@@ -57,7 +57,7 @@ const fn row_of(left: u16, right: u16, bit: u16, code: [u8; 4], value: u32) -> R
 }
 
 impl ModClass {
-    /// What stands for it.
+    /// Its row.
     pub fn row(self) -> Row
         ensures { result ≡ row self }
     {

@@ -1,15 +1,15 @@
 //! Which modifiers are held, and which toggles are on.
 
 ghost use Rattle.std.specs.Prelude.{◌≡◌, ◌<◌, [], ◌∷◌, List, ℕ, fold, bit_or};
-ghost use Rattle.modifier_map.specs.Presses.{Call, Press, Release, mods_of, toggles_of, StandsFor};
+ghost use Rattle.modifier_map.specs.Presses.{Call, Press, Release, mods_of, toggles_of, StandsFor, Extends};
 
 use crate::class::{key_bit, lock_bit};
 use share_base::{Button, KeyId, Mask};
 use std::marker::Model;
 
-/// The modifiers of the keys that are down, by their buttons, and the toggles of the lock keys. A new
-/// one stands for no presses, and each call stands for the list of presses and releases so far with
-/// that call added.
+/// The modifiers of the keys that are down, by their buttons, and the toggles of the lock keys. It
+/// represents the list of presses and releases so far, and each call adds to that list. No method
+/// allocates.
 #[derive(Drop)]
 pub struct HeldMods {
     bits: [u16; 256],
@@ -42,7 +42,7 @@ impl HeldMods {
     /// on. A lock key flips its toggle, at each press.
     pub fn press(&mut self, id: KeyId, button: Button)
         requires { button.0 < 256 }
-        ensures { (calls : List Call) → StandsFor self.old calls → StandsFor self.new (Press id.0 button.0 ∷ calls) }
+        ensures { Extends self.old self.new (Press id.0 button.0) }
     {
         self.bits[button.0 as usize] = key_bit(id);
         self.toggles ^= lock_bit(id);
@@ -51,7 +51,7 @@ impl HeldMods {
     /// The key at a button below 256 goes up. A button that isn't down stays so.
     pub fn release(&mut self, button: Button)
         requires { button.0 < 256 }
-        ensures { (calls : List Call) → StandsFor self.old calls → StandsFor self.new (Release button.0 ∷ calls) }
+        ensures { Extends self.old self.new (Release button.0) }
     {
         self.bits[button.0 as usize] = 0;
     }

@@ -74,7 +74,7 @@ impl ModMap {
     }
 
     /// The key that is meant on that screen: a left key of a class becomes the left key of its target,
-    /// a right key the right one. `None` comes exactly for a key of a class that is mapped to none.
+    /// a right key the right one. `None` for a key of a class that is mapped to none.
     /// Every other key stays.
     pub fn key(&self, id: KeyId) -> Option<KeyId>
         ensures { result ≡ key_under self.now id }

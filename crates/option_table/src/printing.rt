@@ -9,7 +9,7 @@ ghost use Rattle.option_table.specs.Printed as spec;
 use crate::corners::CornerWord;
 use crate::rows::{OPTIONS, OptionName, ValueForm};
 use crate::settings::Settings;
-use share_base::{Lines, Octets, OutOfMemory, put_u32};
+use share_base::{Octets, OutOfMemory, ShortLine, put_u32};
 
 const CORNERS: [CornerWord; 4] = [
     CornerWord::TopLeft,
@@ -23,7 +23,7 @@ pub fn put_number(number: u32, out: &mut Octets) -> Result<(), OutOfMemory>
     ensures ok { OnOk result (out.new ≡ out.old ++ decimal number) }
     ensures err { OnErr result (out.new ≡ out.old) }
 {
-    let mut digits = Lines::new();
+    let mut digits = ShortLine::new();
     put_u32(&mut digits, number);
     out.extend(digits.as_slice())
 }

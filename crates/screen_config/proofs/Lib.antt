@@ -1,6 +1,7 @@
 pub mod AddedHotkeys
 pub mod Bounds
 pub mod KeyPlaces
+pub mod Keyed
 pub mod LinkValues
 pub mod NamesApart
 pub mod SoundHotkeys

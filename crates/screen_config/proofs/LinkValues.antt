@@ -28,7 +28,7 @@ begins n side a l e =
     record { screen = eqb-true l.from.0 n inner.0; there = one_side l.side side inner.1; place = eqb-true l.range.a a outer.1 }
 
 -- a link begins where it begins
-begins_there : (l : Link) → begins_at l.from.0 l.side l.range.a l ≡ true
+pub begins_there : (l : Link) → begins_at l.from.0 l.side l.range.a l ≡ true
 begins_there l =
     and_from ((l.from.0 == l.from.0) && same_side l.side l.side) (l.range.a == l.range.a)
     (and_from (l.from.0 == l.from.0) (same_side l.side l.side) (eq-eqb l.from.0 l.from.0 refl) (same_side_refl l.side)) (eq-eqb l.range.a l.range.a refl)

@@ -1,9 +1,13 @@
 -- Names of which no two are the same, and one more among them.
-use Rattle.std.proofs.Common.{◌≡◌, ℕ, Bool, true, false, not, List, [], ◌∷◌, ◌++◌, map, Option, Some, None, refl, ap, sym, ◌∙◌}
-use Rattle.std.specs.List.{list_all, list_any}
+use Rattle.std.proofs.Common.{◌≡◌, ℕ, Bool, true, false, not, List, [], ◌∷◌, ◌++◌, map, get_or, Option, Some, None, refl, ap, sym, ◌∙◌, arith}
+use Rattle.std.specs.Prelude.{slice_get}
+use Rattle.std.specs.List.{list_all, list_any, find, position, position_or_len}
 use Rattle.std.specs.Option.{option_map}
 use Rattle.std.proofs.lemmas.Bool.{and_parts, and_from, not-true, not_from_false}
-use Rattle.std.proofs.lemmas.List.Folds.{list_all-map}
+use Rattle.std.proofs.lemmas.List.Folds.{find_at, list_all-map}
+use Rattle.std.proofs.lemmas.List.Quantifiers.{position-Some}
+use Rattle.std.proofs.lemmas.List.Sums.{position_or_len_is}
+use Rattle.std.proofs.lemmas.Option.{slice_get-get_or}
 use Rattle.share_base.specs.Names.{same_name}
 use Rattle.share_base.proofs.SameNames.{same_name_swapped}
 use Rattle.share_base.proofs.ListTests.{all_weaker, all_append, all_parts, any_none, none_of_any, none_of_find, none_of_position, find_none, position_none}
@@ -79,3 +83,27 @@ unknown_if_others c name h k =
     let of_screens = position_none (λ (s : Screen). same_name s.name name) c.screens (sym (list_all-map (λ other. not (same_name other name)) (λ (s : Screen). s.name) c.screens) ∙ h) in
     let of_aliases = find_none (λ (a : Alias). same_name a.name name) c.aliases (sym (list_all-map (λ other. not (same_name other name)) (λ (a : Alias). a.name) c.aliases) ∙ k) in
     rw (of_screens, of_aliases) refl
+
+-- ---- found by a test
+
+pub unknown_screen : (c : Configuration) (name : List ℕ) → screen_of c name ≡ None → screen_place c.screens name ≡ None
+unfolding screen_of
+unknown_screen c name h = (neither (screen_place c.screens name) (alias_place c.aliases name) h).0
+
+abbrev is_called : List ℕ → Alias → Bool
+is_called name a = same_name a.name name
+
+pub unknown_alias : (c : Configuration) (name : List ℕ) → screen_of c name ≡ None → position (λ a. same_name a.name name) c.aliases ≡ None
+unfolding screen_of
+unknown_alias c name h =
+    let none = none_mapped (find (is_called name) c.aliases) (neither (screen_place c.screens name) (alias_place c.aliases name) h).1 in
+    position_none (is_called name) c.aliases (none_of_find (is_called name) c.aliases none)
+
+pub no_alias : (aliases : List Alias) (name : List ℕ) → position (λ a. same_name a.name name) aliases ≡ None → alias_place aliases name ≡ None
+no_alias aliases name h = ap (option_map (λ (a : Alias). a.screen)) (find_none (is_called name) aliases (none_of_position (is_called name) aliases h))
+
+pub alias_at : (aliases : List Alias) (name : List ℕ) (i : ℕ) (d : Alias) → position (λ a. same_name a.name name) aliases ≡ Some i → alias_place aliases name ≡ Some (get_or aliases i d).screen
+alias_at aliases name i d h =
+    let found = position-Some (is_called name) aliases i d h in
+    let first : position_or_len (is_called name) aliases ≡ i = position_or_len_is (is_called name) aliases i d (omega (arith, found.0)) found.2 (λ _. found.1) in
+    ap (option_map (λ (a : Alias). a.screen)) (find_at (is_called name) aliases ∙ ap (slice_get aliases) first ∙ slice_get-get_or aliases i d found.0)

@@ -1,6 +1,8 @@
 -- What every configuration keeps, where it holds nothing, and where a link was to be added.
-use Rattle.std.proofs.Common.{◌≡◌, true, ◌<◌, List, [], length, Result, Ok, Err, refl, sym, subst, arith}
+use Rattle.std.proofs.Common.{◌≡◌, ℕ, true, ◌<◌, List, [], ◌∷◌, ◌++◌, length, Result, Ok, Err, refl, sym, subst, arith}
+use Rattle.std.specs.Prelude.{OnOk, OnErr}
 use Rattle.std.specs.List.{list_all}
+use Rattle.share_base.specs.declared.out_of_memory.OutOfMemory.{OutOfMemory}
 use Rattle.std.proofs.lemmas.List.Elements.{All-nil}
 use Rattle.screen_links.specs.declared.link.Link.{Link}
 use Rattle.screen_links.specs.declared.links.LinkFault.{LinkFault}
@@ -19,7 +21,7 @@ use Rattle.screen_config.specs.declared.hotkeys.HotkeysFault.{HotkeysFault}
 use Rattle.screen_config.specs.declared.hotkeys.HotkeysFault.TheVariants as hotkeys_fault
 use Rattle.screen_config.specs.declared.screens.Screen.{Screen}
 use Rattle.screen_config.specs.declared.screens.Alias.{Alias}
-use Rattle.screen_config.specs.Configurations.{Configuration, nothing}
+use Rattle.screen_config.specs.Configurations.{Configuration, nothing, with_screen, with_alias}
 use Rattle.screen_config.specs.AddingHotkeys.{AddsHotkey}
 use Rattle.screen_config.specs.SoundHotkeys.{is_action_among, AreHotkeys}
 use Rattle.screen_config.specs.Sound.{IsSound}
@@ -68,6 +70,18 @@ sound_added (Err fault.BadRange) c link new a s leaves enters = sound_unchanged 
 sound_added (Err fault.Overlap) c link new a s leaves enters = sound_unchanged c new a.2 s
 sound_added (Err fault.Full) c link new a s leaves enters = sound_unchanged c new a.3 s
 sound_added (Err fault.OutOfMemory) c link new a s leaves enters = sound_unchanged c new a.3 s
+
+-- ---- a screen or an alias, where there is memory for it
+
+pub sound_screens : (r : Result (Unit {0}) OutOfMemory) (c : Configuration) (name : List ℕ) (new : List Screen) → OnOk r (new ≡ c.screens ++ (record { name = name; settings = none_set }) ∷ []) → OnErr r (new ≡ c.screens)
+    → IsSound c → IsSound (with_screen c name) → IsSound (record c { screens = new })
+sound_screens (Ok u) c name new added same old more = subst (λ (screens : List Screen). IsSound (record c { screens = screens })) (sym added) more
+sound_screens (Err e) c name new added same old more = subst (λ (screens : List Screen). IsSound (record c { screens = screens })) (sym same) old
+
+pub sound_aliases : (r : Result (Unit {0}) OutOfMemory) (c : Configuration) (name : List ℕ) (screen : ℕ) (new : List Alias) → OnOk r (new ≡ c.aliases ++ (record { name = name; screen = screen }) ∷ []) → OnErr r (new ≡ c.aliases)
+    → IsSound c → IsSound (with_alias c name screen) → IsSound (record c { aliases = new })
+sound_aliases (Ok u) c name screen new added same old more = subst (λ (aliases : List Alias). IsSound (record c { aliases = aliases })) (sym added) more
+sound_aliases (Err e) c name screen new added same old more = subst (λ (aliases : List Alias). IsSound (record c { aliases = aliases })) (sym same) old
 
 -- ---- hotkeys
 

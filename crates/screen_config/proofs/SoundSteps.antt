@@ -1,9 +1,10 @@
 -- What every configuration keeps, with something more in it.
-use Rattle.std.proofs.Common.{◌≡◌, ℕ, zero, suc, ◌+◌, ◌<◌, ◌≤◌, Bool, true, false, not, List, [], ◌∷◌, ◌++◌, length, map, set, Option, Some, None, refl, ap, sym, subst, ◌∙◌, append_assoc, append-nil, length-append, arith}
+use Rattle.std.proofs.Common.{◌≡◌, ℕ, zero, suc, ◌+◌, ◌<◌, ◌≤◌, Bool, true, false, not, List, [], ◌∷◌, ◌++◌, length, map, set, get_or, Option, Some, None, refl, ap, sym, subst, ◌∙◌, append_assoc, append-nil, length-append, arith}
 use Rattle.std.specs.Prelude.{slice_get}
 use Rattle.std.specs.List.{list_all}
 use Rattle.std.proofs.lemmas.Bool.{and_parts, and_from, lt-ltb, not_from_false}
 use Rattle.std.proofs.lemmas.List.{length-set, map-append}
+use Rattle.std.proofs.lemmas.Option.{slice_get-get_or}
 use Rattle.share_base.specs.Names.{is_name}
 use Rattle.share_base.proofs.ListTests.{all_weaker, all_append, all_parts, all_at}
 use Rattle.screen_links.specs.declared.link.Link.{Link}
@@ -16,7 +17,7 @@ use Rattle.option_table.specs.Standing.{are_settings, stands_below_screen, stand
 use Rattle.option_table.proofs.Standing.{none_are_settings, settings_with}
 use Rattle.screen_config.specs.declared.screens.Screen.{Screen}
 use Rattle.screen_config.specs.declared.screens.Alias.{Alias}
-use Rattle.screen_config.specs.Configurations.{Configuration, screen_of, screens_with, with_screen, with_alias, with_link, with_global, with_own}
+use Rattle.screen_config.specs.Configurations.{Configuration, screen_of, screens_with, with_screen, with_alias, with_link, with_global}
 use Rattle.screen_config.specs.SoundHotkeys.{AreHotkeys}
 use Rattle.screen_config.specs.Sound.{IsSound, all_names, apart, is_end, alias_below, link_below, has_own_settings}
 use Rattle.screen_config.proofs.Bounds.{alias_more, link_more}
@@ -132,7 +133,7 @@ same_names (s ∷ rest) zero own new e same =
 same_names (s ∷ rest) (suc n) own new e same = ap (λ (names : List (List ℕ)). s.name ∷ names) (same_names rest n own new e same)
 
 -- another screen in the place of one of that name
-pub sound_set : (c : Configuration) (n : ℕ) (own new : Screen) → IsSound c → slice_get c.screens n ≡ Some own → new.name ≡ own.name → has_own_settings new ≡ true
+sound_set : (c : Configuration) (n : ℕ) (own new : Screen) → IsSound c → slice_get c.screens n ≡ Some own → new.name ≡ own.name → has_own_settings new ≡ true
     → IsSound (record c { screens = set c.screens n new })
 sound_set c n own new s there same settings =
     let names : all_names (record c { screens = set c.screens n new }) ≡ all_names c =
@@ -152,15 +153,20 @@ sound_set c n own new s there same settings =
       hotkeys = subst (λ (n : ℕ). AreHotkeys n c.hotkeys) (sym count) s.hotkeys;
     }
 
-pub own_settings_with : (c : Configuration) (n : ℕ) (own : Screen) (option : OptionName) (value : ℕ) → IsSound c → slice_get c.screens n ≡ Some own
+own_settings_with : (c : Configuration) (n : ℕ) (own : Screen) (option : OptionName) (value : ℕ) → IsSound c → slice_get c.screens n ≡ Some own
     → stands_below_screen (row_of option).scope ≡ true → suits (row_of option).form value ≡ true → are_settings stands_below_screen (with_setting own.settings option value) ≡ true
 own_settings_with c n own option value s there stands suit =
     settings_with stands_below_screen own.settings option value stands suit (all_at has_own_settings c.screens n own s.own there)
 
--- what it is then
-pub own_set : (c : Configuration) (n : ℕ) (own : Screen) (settings : Values) (option : OptionName) (value : ℕ) → slice_get c.screens n ≡ Some own → settings ≡ with_setting own.settings option value
-    → record c { screens = set c.screens n (record { name = own.name; settings = settings }) } ≡ with_own c n option value
-unfolding with_own
-own_set c n own settings option value there e =
-    ap (λ (v : Values). let k : Configuration = record c { screens = set c.screens n (record { name = own.name; settings = v }) } in k) e
-    ∙ ap (λ (o : Option Screen). let k : Configuration = record c { screens = screens_with o c.screens n option value } in k) (sym there)
+nobody : Screen
+nobody = record { name = []; settings = none_set }
+
+pub sound_own : (c : Configuration) (n : ℕ) (option : OptionName) (value : ℕ) (new : List Screen) → IsSound c → n < length c.screens → stands_below_screen (row_of option).scope ≡ true
+    → suits (row_of option).form value ≡ true → new ≡ screens_with (slice_get c.screens n) c.screens n option value → IsSound (record c { screens = new })
+sound_own c n option value new s known stands suit e =
+    let own = get_or c.screens n nobody in
+    let there : slice_get c.screens n ≡ Some own = slice_get-get_or c.screens n nobody known in
+    let set_one : Screen = record own { settings = with_setting own.settings option value } in
+    subst (λ (screens : List Screen). IsSound (record c { screens = screens })) (sym e)
+    (subst (λ (o : Option Screen). IsSound (record c { screens = screens_with o c.screens n option value })) (sym there)
+    (sound_set c n own set_one s there refl (own_settings_with c n own option value s there stands suit)))

@@ -15,6 +15,7 @@ ghost use Rattle.screen_config.specs.Configurations as spec;
 ghost use Rattle.screen_config.specs.Configurations.{nothing, screen_of, screen_place, alias_place, with_screen, with_alias, with_global, with_own};
 ghost use Rattle.screen_config.specs.Sound.{IsSound, is_end};
 
+use crate::by_name::ByName;
 use crate::hotkeys::{Hotkeys, HotkeysFault};
 use crate::screens::{Alias, Screen};
 use hotkey_rules::{Action, Rules, Trigger};
@@ -29,8 +30,8 @@ use std::marker::Model;
 #[derive(Debug, Drop)]
 pub struct Config {
     alloc: Global,
-    pub(crate) screens: Vec<Screen>,
-    aliases: Vec<Alias>,
+    pub(crate) screens: ByName<Screen>,
+    aliases: ByName<Alias>,
     pub(crate) links: Links,
     pub(crate) settings: Settings,
     hotkeys: Hotkeys,
@@ -43,42 +44,27 @@ impl Model for Config {
     ghost Value = { Configuration };
 
     ghost view = { λ c. record {
-      screens = c.screens.items;
-      aliases = c.aliases.items;
+      screens = c.screens;
+      aliases = c.aliases;
       links = c.links;
       settings = c.settings;
       hotkeys = c.hotkeys;
     } };
 
     ghost invariant = { λ c. IsSound (record {
-      screens = c.screens.items;
-      aliases = c.aliases.items;
+      screens = c.screens;
+      aliases = c.aliases;
       links = c.links;
       settings = c.settings;
       hotkeys = c.hotkeys;
     }) };
 }
 
-fn place_of_screen(screens: &[Screen], name: &[u8]) -> Option<usize>
-    ensures place { result ≡ screen_place screens.now name.now }
-    ensures below { IfSome result (λ n. n < length screens.now) }
-{
-    screens
-        .iter()
-        .position(|screen| screen.name.is_called(name))
-}
-
-fn find_alias<'a>(aliases: &'a [Alias], name: &[u8]) -> Option<&'a Alias>
-    ensures { option_copied result ≡ find (λ a. same_name a.name name.now) aliases.now }
-{
-    aliases.iter().find(|alias| alias.name.is_called(name))
-}
-
-fn place_of_alias(aliases: &[Alias], name: &[u8]) -> Option<u16>
+fn screen_of_alias(aliases: &ByName<Alias>, name: &[u8]) -> Option<u16>
     ensures { result ≡ alias_place aliases.now name.now }
 {
-    match find_alias(aliases, name) {
-        Some(alias) => Some(alias.screen),
+    match aliases.index_of(name) {
+        Some(index) => Some(aliases.as_slice()[index].screen),
         None => None,
     }
 }
@@ -90,8 +76,8 @@ impl Config {
     {
         Config {
             alloc,
-            screens: Vec::new(alloc),
-            aliases: Vec::new(alloc),
+            screens: ByName::new(alloc),
+            aliases: ByName::new(alloc),
             links: Links::new(alloc),
             settings: Settings::new(),
             hotkeys: Hotkeys::new(alloc),
@@ -107,7 +93,7 @@ impl Config {
         ensures bound { length self.now.screens ≤ 64 }
         ensures sound { IsSound self.now }
     {
-        self.screens.len() as u16
+        self.screens.as_slice().len() as u16
     }
 
     /// The hotkeys, in the order of the text: at most 256, with 4,096 actions. Each can be spelled by a
@@ -126,10 +112,10 @@ impl Config {
         ensures found { option_map (λ n. n.0) result ≡ screen_of self.now name.now }
         ensures known { IfSome result (λ n. n.0 < length self.now.screens) }
     {
-        if let Some(place) = place_of_screen(self.screens.as_slice(), name) {
-            return Some(ScreenNo(place as u16));
+        if let Some(index) = self.screens.index_of(name) {
+            return Some(ScreenNo(index as u16));
         }
-        match place_of_alias(self.aliases.as_slice(), name) {
+        match screen_of_alias(&self.aliases, name) {
             Some(screen) => Some(ScreenNo(screen)),
             None => None,
         }
@@ -180,8 +166,7 @@ impl Config {
         self.screens.push(Screen {
             name,
             settings: Settings::new(),
-        })?;
-        Ok(())
+        })
     }
 
     /// A further alias. No screen or alias has its name, and it isn't `end`, whose line closes a section.
@@ -194,8 +179,7 @@ impl Config {
         ensures ok { OnOk result (self.new ≡ with_alias self.old name screen) }
         ensures err { OnErr result (self.new ≡ self.old) }
     {
-        self.aliases.push(Alias { name, screen })?;
-        Ok(())
+        self.aliases.push(Alias { name, screen })
     }
 
     /// A further link.
@@ -243,7 +227,6 @@ impl Config {
         ensures set { self.new ≡ with_own self.old screen option value }
         ensures same_count { length self.new.screens ≡ length self.old.screens }
     {
-        let own = &mut self.screens[screen as usize];
-        own.settings.set(option, value);
+        self.screens.set(screen as usize, option, value);
     }
 }

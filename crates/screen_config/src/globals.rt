@@ -137,7 +137,7 @@ impl Config {
         requires { no.0 < length self.now.screens }
         ensures { name_of self.now no.0 ≡ result.now }
     {
-        let screen = &self.screens[no.0 as usize];
+        let screen = &self.screens.as_slice()[no.0 as usize];
         &screen.name
     }
 
@@ -162,7 +162,7 @@ impl Config {
         ensures corners { result ≡ spec.corners_of self.now no.0 }
         ensures in_range { (result.set ≤ 15) × (result.size ≤ 32767) }
     {
-        let screen = &self.screens[no.0 as usize];
+        let screen = &self.screens.as_slice()[no.0 as usize];
         corners_for(&screen.settings, &self.settings)
     }
 
@@ -180,7 +180,7 @@ impl Config {
         ensures err { OnErr result (out.new ≡ out.old) }
     {
         let mut words = Words32::new(alloc);
-        let screen = &self.screens[no.0 as usize];
+        let screen = &self.screens.as_slice()[no.0 as usize];
         put_wire_words(&screen.settings, &self.settings, &mut words)?;
         out.extend(words.as_slice())
     }

@@ -8,6 +8,7 @@
 #![tactic(auto)]
 
 mod action_keys;
+mod by_name;
 mod config;
 mod globals;
 mod hotkeys;

@@ -1,5 +1,6 @@
 //! Screens and their aliases.
 
+use crate::by_name::Named;
 use option_table::Settings;
 use share_base::ScreenName;
 
@@ -19,4 +20,20 @@ pub struct Alias {
     pub name: ScreenName,
     /// The number of the screen.
     pub screen: u16,
+}
+
+impl Named for Screen {
+    ghost name_of = { λ s. s.name };
+
+    fn name(&self) -> &ScreenName {
+        &self.name
+    }
+}
+
+impl Named for Alias {
+    ghost name_of = { λ a. a.name };
+
+    fn name(&self) -> &ScreenName {
+        &self.name
+    }
 }

@@ -8,3 +8,4 @@ pub mod NameBytes
 pub mod SameNames
 pub mod SideWords
 pub mod SameSides
+pub mod Fronts

@@ -1,8 +1,8 @@
 -- The bytes of a name.
-use Rattle.std.proofs.Common.{◌≡◌, ℕ, ◌-◌, Bool, true, false, cond, ◌&&◌, ◌||◌, ◌==◌, nat_le, List, [], ◌∷◌, length, take, get_or, refl, sym, subst, arith}
+use Rattle.std.proofs.Common.{◌≡◌, ℕ, ◌-◌, ◌≤◌, Bool, true, false, cond, ◌&&◌, ◌||◌, ◌==◌, nat_le, List, [], ◌∷◌, length, take, get_or, refl, sym, subst, arith}
 use Rattle.std.specs.Prelude.{slice_index}
 use Rattle.std.specs.List.{list_all, slice_split, onto_first}
-use Rattle.std.proofs.lemmas.Bool.{and_parts, and_from, or_left, or_right}
+use Rattle.std.proofs.lemmas.Bool.{and_parts, and_from, leb-true, or_left, or_right}
 use Rattle.share_base.specs.Names.{is_name, is_part, is_part_byte, is_edge_byte, undotted}
 use Rattle.share_base.proofs.Ends.{front_and_last}
 use Rattle.share_base.proofs.ListTests.{all_weaker, all_append}
@@ -58,3 +58,8 @@ name_bytes name h =
 pub no_name : is_name [] ≡ false
 unfolding is_name
 no_name = refl
+
+-- a name has 255 bytes at most
+pub is_name_short : (name : List ℕ) → is_name name ≡ true → length name ≤ 255
+unfolding is_name
+is_name_short name h = leb-true (length name) 255 (and_parts (nat_le (length name) 255) (list_all is_part (slice_split (λ b. b == 46) (undotted name))) h).0

@@ -3,6 +3,7 @@ pub mod Told
 pub mod Reading
 pub mod Writing
 pub mod Memory
+pub mod Moments
 pub mod Clips
 pub mod Reasons
 pub mod Names
@@ -10,3 +11,5 @@ pub mod Stored
 pub mod Screens
 pub mod Shapes
 pub mod Sides
+pub mod Fronts
+pub mod Hex

@@ -24,7 +24,7 @@ impl ClipId {
         }
     }
 
-    /// The clipboard of a number. `None` comes exactly for a number above 1.
+    /// The clipboard of a number; `None` above 1.
     pub fn of(number: u8) -> Option<ClipId>
         ensures found { IfSome result (λ clip. number ≡ clip_number clip) }
         ensures none { IfNone result ((clip : Clip) → number ≡ clip_number clip → ⊥) }

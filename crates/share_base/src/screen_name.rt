@@ -10,9 +10,9 @@ use std::marker::Model;
 /// How many bytes a name has at most.
 const LONGEST: usize = 255;
 
-/// A name of 1 to 255 bytes: parts with dots between them, and maybe one dot behind the last. A part
+/// A name of 1 to 255 bytes: parts with dots between them, and optionally one dot after the last. A part
 /// is made of letters, digits, `_` and `-`, and neither begins nor ends with `-`. Contracts see the
-/// list of its bytes. No call of it takes memory.
+/// list of its bytes. No method allocates.
 #[derive(Debug, Drop)]
 pub struct ScreenName {
     bytes: [u8; LONGEST],
@@ -31,7 +31,7 @@ impl Model for ScreenName {
 }
 
 impl ScreenName {
-    /// The bytes as a name. `None` comes exactly where they are no name.
+    /// Reads a name; `None` if the bytes are not one.
     pub fn read(bytes: &[u8]) -> Option<ScreenName>
         ensures { MatchOption result (is_name bytes.now ≡ false) (λ n. (is_name bytes.now ≡ true) × (n ≡ bytes.now)) }
     {

@@ -6,7 +6,7 @@ ghost use Rattle.share_base.specs.Screens.{has};
 use crate::numbers::ScreenNo;
 use std::marker::Model;
 
-/// A set of screens with numbers below 64. Contracts ask it by `has`. No call of it takes memory.
+/// A set of screens with numbers below 64. Contracts ask it by `has`. No method allocates.
 #[derive(Clone, Copy, Debug, PartialEq, Eq)]
 pub struct ScreenSet {
     bits: u64,
@@ -23,14 +23,14 @@ impl Model for ScreenSet {
 }
 
 impl ScreenSet {
-    /// No screen.
+    /// An empty set.
     pub fn new() -> ScreenSet
         ensures { (k : ℕ) → has result k ≡ false }
     {
         ScreenSet { bits: 0 }
     }
 
-    /// Puts a screen in. Its number is below 64.
+    /// Adds a screen, whose number is below 64.
     pub fn insert(&mut self, no: ScreenNo)
         requires { no.0 < 64 }
         ensures { (k : ℕ) → has self.new k ≡ (has self.old k || k == no.0) }
@@ -38,7 +38,7 @@ impl ScreenSet {
         self.bits |= 1 << no.0;
     }
 
-    /// Takes a screen out. Its number is below 64.
+    /// Removes a screen, whose number is below 64.
     pub fn remove(&mut self, no: ScreenNo)
         requires { no.0 < 64 }
         ensures { (k : ℕ) → has self.new k ≡ (has self.old k && not (k == no.0)) }
@@ -46,7 +46,7 @@ impl ScreenSet {
         self.bits &= !(1 << no.0);
     }
 
-    /// Whether a screen is in it. Its number is below 64.
+    /// Whether the set has a screen, whose number is below 64.
     pub fn has(&self, no: ScreenNo) -> bool
         requires { no.0 < 64 }
         ensures { result ≡ has self.now no.0 }

@@ -8,7 +8,7 @@ use crate::shape::Side;
 const SIDES: [Side; 4] = [Side::Left, Side::Right, Side::Up, Side::Down];
 
 impl Side {
-    /// Its word: `left`, `right`, `up` or `down`. It takes no memory.
+    /// Its word: `left`, `right`, `up` or `down`.
     pub fn word(self) -> &'static [u8]
         ensures { result.now ≡ side_text self }
     {
@@ -20,8 +20,7 @@ impl Side {
         }
     }
 
-    /// The side with that word, in small letters. `None` comes exactly where none has it. It takes no
-    /// memory.
+    /// The side with that word, in small letters; `None` if it is no side's.
     pub fn named(word: &[u8]) -> Option<Side>
         ensures { result ≡ side_named word.now }
     {

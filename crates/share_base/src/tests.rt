@@ -1,3 +1,5 @@
+ghost use Rattle.std.specs.Prelude.{◌≤◌, ◌+◌, length};
+
 use super::*;
 use std::test::*;
 
@@ -6,7 +8,9 @@ fn octets_grow(rt: HostRuntime) -> Result<(), Fail> {
     let mut octets = Octets::new(rt.alloc());
     octets.push(7)?;
     octets.extend(&[8, 9])?;
-    assert_eq!(rt; octets.as_slice(), [7, 8, 9].as_slice());
+    octets.extend_u16(0x0102)?;
+    octets.extend_u32(0x0304_0506)?;
+    assert_eq!(rt; octets.as_slice(), [7, 8, 9, 1, 2, 3, 4, 5, 6].as_slice());
     Ok(())
 }
 
@@ -19,20 +23,32 @@ fn words_grow(rt: HostRuntime) -> Result<(), Fail> {
     Ok(())
 }
 
+const NUMBERS: &[u8] = b"18446744073709551615 4294967295 0 -32768";
+
+fn put_numbers<B: Buffer>(out: &mut B)
+    requires { length (B.content out.old) + 44 ≤ B.capacity out.old }
+{
+    put_u64(out, 18_446_744_073_709_551_615);
+    out.extend(b" ");
+    put_u32(out, 4_294_967_295);
+    out.extend(b" ");
+    put_u16(out, 0);
+    out.extend(b" ");
+    put_i16(out, -32_768);
+}
+
 #[test]
-fn numbers_are_printed_in_full(rt: HostRuntime) {
+fn numbers_are_printed_into_any_buffer(rt: HostRuntime) -> Result<(), Fail> {
     let mut lines = Lines::new();
-    put_u64(&mut lines, 18_446_744_073_709_551_615);
-    lines.extend(b" ");
-    put_u32(&mut lines, 4_294_967_295);
-    lines.extend(b" ");
-    put_u16(&mut lines, 0);
-    lines.extend(b" ");
-    put_i16(&mut lines, -32_768);
-    assert_eq!(rt;
-        lines.as_slice(),
-        b"18446744073709551615 4294967295 0 -32768".as_slice()
-    );
+    put_numbers(&mut lines);
+    assert_eq!(rt; lines.as_slice(), NUMBERS);
+    let mut line = ShortLine::new();
+    put_numbers(&mut line);
+    assert_eq!(rt; line.as_slice(), NUMBERS);
+    let mut bytes = Vec::with_capacity(rt.alloc(), 44)?;
+    put_numbers(&mut bytes);
+    assert_eq!(rt; bytes.as_slice(), NUMBERS);
+    Ok(())
 }
 
 #[test]

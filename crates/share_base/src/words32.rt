@@ -19,7 +19,7 @@ impl Model for Words32 {
 }
 
 impl Words32 {
-    /// The empty list. Later calls take their memory from `alloc`; this one takes none.
+    /// An empty list, which allocates nothing yet. Later calls allocate from `alloc`.
     pub fn new(alloc: Global) -> Words32
         ensures { result ≡ [] }
     {
@@ -28,7 +28,7 @@ impl Words32 {
         }
     }
 
-    /// Adds one number at the end. After `OutOfMemory` the list is unchanged.
+    /// Appends one number. On `OutOfMemory` the list is unchanged.
     pub fn push(&mut self, word: u32) -> Result<(), OutOfMemory>
         ensures ok { OnOk result (self.new ≡ self.old ++ word ∷ []) }
         ensures err { OnErr result (self.new ≡ self.old) }
@@ -37,7 +37,7 @@ impl Words32 {
         Ok(())
     }
 
-    /// Adds numbers at the end, in their order. After `OutOfMemory` the list is unchanged.
+    /// Appends numbers. On `OutOfMemory` the list is unchanged.
     pub fn extend(&mut self, words: &[u32]) -> Result<(), OutOfMemory>
         ensures ok { OnOk result (self.new ≡ self.old ++ words.now) }
         ensures err { OnErr result (self.new ≡ self.old) }

@@ -6,3 +6,4 @@ pub mod OneSplit
 pub mod Injection
 pub mod OneEnd
 pub mod Checked
+pub mod Adapters

@@ -9,3 +9,4 @@ pub mod Checking
 pub mod Causes
 pub mod Statuses
 pub mod Words
+pub mod Adapters

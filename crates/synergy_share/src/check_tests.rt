@@ -1,8 +1,8 @@
-//! The command `check`, on files in memory, and the real files.
+//! The command `check`, on files in memory.
 
 use super::*;
 use config_text::ConfigKind;
-use share_base::{FileAnswer, Files, MemoryFiles, MemorySink, MemorySource, OutOfMemory};
+use share_base::{MemoryFiles, MemorySink, MemorySource, OutOfMemory};
 use std::alloc::Global;
 use std::test::*;
 
@@ -247,15 +247,4 @@ fn a_refusal_has_a_code_and_a_line(rt: HostRuntime) {
         status.report().as_slice(),
         b"config 0 0 TooMany\n".as_slice()
     );
-}
-
-#[test]
-fn real_files_keep_to_the_limit(rt: HostRuntime) {
-    let mut files = StdFiles::new(&rt, rt.alloc());
-    assert!(rt;
-        matches!(files.read_all("/dev/null", 0), FileAnswer::Bytes(bytes) if bytes.as_slice().is_empty())
-    );
-    assert!(rt; matches!(files.read_all("/dev/zero", 5000), FileAnswer::TooBig));
-    assert!(rt; matches!(files.read_all("/", 5000), FileAnswer::Failed));
-    assert!(rt; matches!(files.read_all("/no such file", 5000), FileAnswer::Failed));
 }

@@ -14,6 +14,8 @@ mod inject_core;
 mod laws;
 mod line_core;
 mod real;
+#[cfg(test)]
+mod real_tests;
 mod show_core;
 mod show_next;
 mod status;

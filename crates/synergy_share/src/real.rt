@@ -1,15 +1,22 @@
-//! Standard input and output as a source and a sink, and the files of the system. They count their
-//! faults, and tell no bytes to contracts: what the system gives or takes no clause can say. A read or
-//! a write that a signal interrupted is made again, and is no fault.
+//! Adapters from the standard library's readers, writers and files to a source, a sink and files.
+//!
+//! They count their faults, and tell no bytes to the layers above, since no clause can say what the system
+//! gives or takes. Where the reader or writer below says which bytes it holds, as one in memory does, a
+//! read and a write answer by exactly these. A read or a write that a signal interrupted is made again,
+//! and is not a fault.
 
+ghost use Rattle.std.specs.Prelude.{◌<◌, None, length};
+ghost use Rattle.share_base.specs.Reading.{FitsRead, ReadGives, ReadEnds, ReadCounts};
+ghost use Rattle.share_base.specs.Writing.{FitsWrite, WriteTakes, WriteCounts};
 ghost use Rattle.share_base.specs.Stored.{FileGives, FileFaults};
+ghost use Rattle.synergy_share.specs.Adapters.{ReadsFrom, WritesTo};
 
 use share_base::{FileAnswer, Files, Octets, Sink, SinkAnswer, Source, SourceAnswer};
 use std::alloc::Global;
 use std::fs;
 use std::io::{ErrorKind, Read, Write};
 
-/// Standard input, or any reader.
+/// Standard input, or any other reader.
 #[derive(Drop)]
 pub struct StdSource<R: Read + Drop> {
     reader: R,
@@ -17,7 +24,7 @@ pub struct StdSource<R: Read + Drop> {
 }
 
 impl<R: Read + Drop> StdSource<R> {
-    /// It takes no memory and can't fail.
+    /// Creates a source that has not failed yet. Does not allocate.
     pub fn new(reader: R) -> StdSource<R> {
         StdSource { reader, faults: 0 }
     }
@@ -36,7 +43,12 @@ impl<R: Read + Drop> Source for StdSource<R> {
 
     ghost faults = { λ s. s.faults };
 
-    fn read(&mut self, buf: &mut [u8]) -> SourceAnswer {
+    fn read(&mut self, buf: &mut [u8]) -> SourceAnswer
+        requires { 0 < length buf.old }
+        ensures fits { FitsRead result (length buf.old) }
+        ensures counts { ReadCounts result self.old.faults self.new.faults }
+        ensures reads { ReadsFrom result buf.new (R.remaining self.old.reader) (R.remaining self.new.reader) }
+    {
         for _ in 0..u64::MAX {
             match self.reader.read(buf) {
                 Ok(0) => return SourceAnswer::End,
@@ -50,7 +62,7 @@ impl<R: Read + Drop> Source for StdSource<R> {
     }
 }
 
-/// Standard output, or any writer.
+/// Standard output, or any other writer.
 #[derive(Drop)]
 pub struct StdSink<W: Write + Drop> {
     writer: W,
@@ -58,7 +70,7 @@ pub struct StdSink<W: Write + Drop> {
 }
 
 impl<W: Write + Drop> StdSink<W> {
-    /// It takes no memory and can't fail.
+    /// Creates a sink that has not failed yet. Does not allocate.
     pub fn new(writer: W) -> StdSink<W> {
         StdSink { writer, faults: 0 }
     }
@@ -72,7 +84,11 @@ impl<W: Write + Drop> Sink for StdSink<W> {
     ghost faults = { λ s. s.faults };
 
     /// A write that takes nothing counts as a failure.
-    fn write(&mut self, bytes: &[u8]) -> SinkAnswer {
+    fn write(&mut self, bytes: &[u8]) -> SinkAnswer
+        ensures fits { FitsWrite result (length bytes.now) }
+        ensures counts { WriteCounts result self.old.faults self.new.faults }
+        ensures writes { WritesTo result bytes.now (W.contents self.old.writer) (W.contents self.new.writer) }
+    {
         for _ in 0..u64::MAX {
             match self.writer.write(bytes) {
                 Ok(0) => break,
@@ -86,7 +102,7 @@ impl<W: Write + Drop> Sink for StdSink<W> {
     }
 }
 
-/// The files of the system, or of what stands in for it.
+/// The files of the system, or of a runtime that stands in for it.
 #[derive(Drop)]
 pub struct StdFiles<'a, R: fs::Files> {
     files: &'a R,
@@ -97,7 +113,7 @@ pub struct StdFiles<'a, R: fs::Files> {
 }
 
 impl<'a, R: fs::Files> StdFiles<'a, R> {
-    /// It takes no memory and can't fail. What is read takes its memory from `alloc`.
+    /// Creates the adapter. Does not allocate; the bytes of a file that is read come from `alloc`.
     pub fn new(files: &'a R, alloc: Global) -> StdFiles<'a, R> {
         StdFiles {
             files,
@@ -109,8 +125,7 @@ impl<'a, R: fs::Files> StdFiles<'a, R> {
     }
 }
 
-/// All that a source gives, as a file of at most `limit` bytes. Of more, one byte past the limit is
-/// read at most.
+/// Reads a source to its end, as a file of at most `limit` bytes. At most one byte past the limit is read.
 fn read_whole<S: Source>(alloc: Global, source: &mut S, limit: u64) -> FileAnswer
     ensures gives { FileGives result limit (S.left source.old) }
     ensures faults { FileFaults result (S.faults source.old) (S.faults source.new) }

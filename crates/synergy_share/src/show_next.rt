@@ -23,14 +23,18 @@ pub enum Taken {
     End(Status),
 }
 
-fn put_shown(alloc: Global, msg: &Msg, lines: &mut Octets) -> Result<(), OutOfMemory>
+// Appends the line of a message. On an error the lines are unchanged.
+fn put_shown(msg: &Msg, lines: &mut Octets) -> Result<(), OutOfMemory>
     ensures ok { OnOk result (lines.new ≡ lines.old ++ shown msg.now) }
     ensures err { OnErr result (lines.new ≡ lines.old) }
 {
-    let mut line = Octets::new(alloc);
-    show(alloc, msg, &mut line)?;
-    line.push(b'\n')?;
-    lines.extend(line.as_slice())
+    let start = lines.len();
+    show(msg, lines)?;
+    if let Err(error) = lines.push(b'\n') {
+        lines.truncate(start);
+        return Err(error);
+    }
+    Ok(())
 }
 
 /// Takes the frame at the front, where a whole one stands there, and adds the line of its message.
@@ -59,7 +63,7 @@ pub fn show_next(
                     let reason = why.reason();
                     Ok(Taken::End(Status::BadFrames { place, reason }))
                 }
-                Ok(msg) => match put_shown(alloc, &msg, lines) {
+                Ok(msg) => match put_shown(&msg, lines) {
                     Ok(()) => Ok(Taken::Line { end }),
                     Err(OutOfMemory) => Err(OutOfMemory),
                 },

@@ -6,7 +6,7 @@ ghost use Rattle.config_text.specs.Kinds.{kind_text};
 
 use client_core::{LostCause, Which};
 use config_text::ConfigKind;
-use share_base::{Lines, Reason, put_u32, put_u64};
+use share_base::{Buffer, Lines, Reason, put_u32, put_u64};
 
 /// How a command ends. `docs/protocol.md` has the table of codes and lines.
 #[derive(Clone, Copy, Debug, PartialEq, Eq)]

@@ -1,15 +1,8 @@
-ghost use Rattle.std.specs.Prelude.{◌≤◌, IfOk};
-
 use super::*;
 use client_core::{LostCause, Which};
 use message_codec::End;
-use share_base::{
-    MemoryFiles, MemorySink, MemorySource, OutOfMemory, Reason, Sink, SinkAnswer, Source,
-    SourceAnswer,
-};
+use share_base::{MemoryFiles, MemorySink, MemorySource, OutOfMemory, Reason};
 use std::alloc::Global;
-use std::io;
-use std::io::Read;
 use std::test::*;
 
 const ENTER: [u8; 18] = *b"\x00\x00\x00\x0eCINN\x00\x00\x01\x80\x00\x00\x00\x01\x00\x00";
@@ -337,46 +330,4 @@ fn words_name_a_command_or_none(rt: HostRuntime) -> Result<(), Fail> {
         );
     }
     Ok(())
-}
-
-/// A reader and a writer that are interrupted before they give or take a byte.
-#[derive(Drop)]
-struct Interrupted {
-    times: u32,
-}
-
-impl Interrupted {
-    fn next(&mut self, len: usize) -> io::Result<usize>
-        ensures { IfOk result (λ n. n ≤ len) }
-    {
-        if self.times == 0 {
-            return Ok(len);
-        }
-        self.times -= 1;
-        Err(io::Error::from(ErrorKind::Interrupted))
-    }
-}
-
-impl Read for Interrupted {
-    fn read(&mut self, buf: &mut [u8]) -> io::Result<usize> {
-        self.next(buf.len())
-    }
-}
-
-impl Write for Interrupted {
-    fn write(&mut self, bytes: &[u8]) -> io::Result<usize> {
-        self.next(bytes.len())
-    }
-
-    fn flush(&mut self) -> io::Result<()> {
-        Ok(())
-    }
-}
-
-#[test]
-fn an_interruption_is_no_fault(rt: HostRuntime) {
-    let mut source = StdSource::new(Interrupted { times: 3 });
-    assert_eq!(rt; source.read(&mut [0]), SourceAnswer::Got(1));
-    let mut sink = StdSink::new(Interrupted { times: 3 });
-    assert_eq!(rt; sink.write(b"a"), SinkAnswer::Took(1));
 }

@@ -10,7 +10,7 @@ use Rattle.wire_frames.specs.Framers.{FramerParts, moved}
 use Rattle.wire_frames.specs.Steps.{IsFirst}
 
 abbrev pub parts_of : ℕ → ℕ → List ℕ → ℕ → Bool → FramerParts
-parts_of gone last bytes limit over = record { given = gone + last; rest = drop last bytes; limit = limit; over = over }
+parts_of gone given bytes limit over = record { given = gone + given; rest = drop given bytes; limit = limit; over = over; held = length bytes }
 
 -- no frame was too long where the front is short, or names a length within the limit
 not_over_within : (over : Bool) (limit : ℕ) (bytes : List ℕ) → (over ≡ true → IsTooLong limit bytes) → length_field bytes ≤ limit → over ≡ false
@@ -41,21 +41,22 @@ pub record GivesFrame (f : FramerParts) (body : List ℕ) (new : FramerParts) (a
   pub not_over : f.over ≡ false
   pub first : IsFirst f.limit body f.rest
 
--- what `next` keeps and answers at a frame: `kept` are the bytes after the last frame, which begin at `place`, and `shown` are they as a slice
-pub gives_frame : (f : FramerParts) (gone last place n limit : ℕ) (over : Bool) (bytes kept shown : List ℕ)
-    → parts_of gone last bytes limit over ≡ f → kept ≡ drop last bytes → place ≡ gone + last → shown ≡ kept
-    → to_be_bytes w32 n ≡ take 4 shown → n ≡ length_field shown → n ≤ limit → 4 + n ≤ length shown → (over ≡ true → IsTooLong limit (drop last bytes))
-    → GivesFrame f (take (4 + n - 4) (drop 4 shown)) (record { given = place + (4 + n); rest = drop (4 + n) kept; limit = limit; over = over }) place
-gives_frame f gone last place n limit over bytes kept shown parts kept-is place-is shown-is header n-is le whole over_kept =
+-- what `next` leaves and answers at a frame; `shown` is the rest as a slice
+pub gives_frame : (f : FramerParts) (gone given n limit : ℕ) (over : Bool) (bytes shown : List ℕ)
+    → parts_of gone given bytes limit over ≡ f → shown ≡ drop given bytes
+    → to_be_bytes w32 n ≡ take 4 shown → n ≡ length_field shown → n ≤ limit → 4 + n ≤ length shown → (over ≡ true → IsTooLong limit (drop given bytes))
+    → GivesFrame f (take (4 + n - 4) (drop 4 shown)) (parts_of gone (given + (4 + n)) bytes limit over) (gone + given)
+gives_frame f gone given n limit over bytes shown parts shown-is header n-is le whole over_rest =
     let front = frame_at limit shown n header le whole in
     let body : List ℕ = take (4 + n - 4) (drop 4 shown) in
-    let all : shown ≡ drop last bytes = shown-is ∙ kept-is in
-    let start : FramerParts = parts_of gone last bytes limit over in
-    let left : record { given = place + (4 + n); rest = drop (4 + n) kept; limit = limit; over = over } ≡ moved start (4 + length body) (drop (4 + length body) start.rest) = rw (front.0, kept-is, place-is) refl in
-    let fine : over ≡ false = not_over_within over limit (drop last bytes) over_kept (omega (arith, n-is ∙ ap length_field all)) in
-    let first : IsFirst limit body (drop last bytes) = subst (λ (r : List ℕ). IsFirst limit body r) all front.1 in
-    let P : FramerParts → Type 0 = λ g. GivesFrame g body (record { given = place + (4 + n); rest = drop (4 + n) kept; limit = limit; over = over }) place in
-    subst P parts (record { left = left; place = place-is; not_over = fine; first = first })
+    let start : FramerParts = parts_of gone given bytes limit over in
+    let past : gone + (given + (4 + n)) ≡ gone + given + (4 + n) = omega arith in
+    let mark : parts_of gone (given + (4 + n)) bytes limit over ≡ moved start (4 + n) (drop (4 + n) (drop given bytes)) = rw (past, sym (drop-drop (4 + n) given bytes)) refl in
+    let left : parts_of gone (given + (4 + n)) bytes limit over ≡ moved start (4 + length body) (drop (4 + length body) start.rest) = mark ∙ (rw front.0 refl) in
+    let fine : over ≡ false = not_over_within over limit (drop given bytes) over_rest (omega (arith, n-is ∙ ap length_field shown-is)) in
+    let first : IsFirst limit body (drop given bytes) = subst (λ (r : List ℕ). IsFirst limit body r) shown-is front.1 in
+    let P : FramerParts → Type 0 = λ g. GivesFrame g body (parts_of gone (given + (4 + n)) bytes limit over) (gone + given) in
+    subst P parts (record { left = left; place = refl; not_over = fine; first = first })
 
 abbrev pub IsBytes : List ℕ → Type 0
 IsBytes bytes = (i : ℕ) → get_or bytes i 0 < 256
@@ -72,10 +73,10 @@ pub spelled_at : (bytes : List ℕ) (n : ℕ) → 4 ≤ length bytes → IsBytes
 spelled_at bytes n long small n-is = be_bytes_4 (take 4 bytes) n (omega (arith, length-take 4 bytes)) (IsBytes-take 4 bytes small) n-is
 
 -- what was given and what is left are what was fed, fewer than 2^63 bytes
-pub bounded : (f : FramerParts) (gone last limit : ℕ) (over : Bool) (bytes : List ℕ) → record { given = gone + last; rest = drop last bytes; limit = limit; over = over } ≡ f → last ≤ length bytes → gone + length bytes < 2 ^ 63 → f.given + length f.rest < 2 ^ 63
-bounded f gone last limit over bytes parts le lt =
+pub bounded : (f : FramerParts) (gone given limit : ℕ) (over : Bool) (bytes : List ℕ) → parts_of gone given bytes limit over ≡ f → given ≤ length bytes → gone + length bytes < 2 ^ 63 → f.given + length f.rest < 2 ^ 63
+bounded f gone given limit over bytes parts le lt =
     let P : FramerParts → Type 0 = λ g. g.given + length g.rest < 2 ^ 63 in
-    subst P parts (omega (arith, length-drop last bytes))
+    subst P parts (omega (arith, length-drop given bytes))
 
 -- less than a frame, a length above the limit, or a frame within it stands at the front
 pub front_of : (limit : ℕ) (bytes : List ℕ) → IsBytes bytes → IsPartial limit bytes ⊎ (IsTooLong limit bytes ⊎ IsFirst limit (take (length_field bytes) (drop 4 bytes)) bytes)

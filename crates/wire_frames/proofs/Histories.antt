@@ -1,12 +1,12 @@
 -- A framer stands for its calls: a call more.
 use Rattle.std.proofs.Common.{◌≡◌, ℕ, ◌+◌, ◌≤◌, Bool, true, false, cond, List, [], ◌∷◌, ◌++◌, length, drop, refl, sym, ap, subst, ◌∙◌, append_assoc, arith}
 use Rattle.std.specs.List.{AllByRecursion}
-use Rattle.std.proofs.lemmas.List.{length-append, append-nil}
+use Rattle.std.proofs.lemmas.List.{length-append, append-nil, drop_at}
 use Rattle.std.proofs.lemmas.Grind.{flat_map-append}
 use Rattle.std.proofs.lemmas.List.Concat.{flat_map-cons}
 use Rattle.wire_frames.specs.Framing.{frame, frames, length_field, IsPartial, IsTooLong}
-use Rattle.wire_frames.specs.Framers.{FramerParts, begun, fed, moved, raised}
-use Rattle.wire_frames.specs.Calls.{Call, Fed, Gave, Waited, Refused, Raised, stream_fed, bodies_given, limit_after, AreRight, StandsFor}
+use Rattle.wire_frames.specs.Framers.{FramerParts, begun, fed, moved, refused, raised}
+use Rattle.wire_frames.specs.Calls.{Call, Fed, Gave, Waited, Refused, Raised, stream_fed, bodies_given, next_place, limit_after, IsLeft, AreRight, StandsFor}
 use Rattle.wire_frames.specs.Steps.{IsFirst}
 
 -- the frames of one body more
@@ -38,11 +38,15 @@ given_within first (Raised limit ∷ calls) right = within_more (limit_after fir
 -- ---- a call more
 
 pub stands_begun : (limit : ℕ) → StandsFor limit (begun limit) []
-stands_begun limit = record { right = tt; given = refl; left = refl; limit = refl; over = refl }
+stands_begun limit = record { right = tt; given = refl; left = refl; limit = refl; over = refl; held = refl }
 
 fed_left : (over : Bool) (stream gone rest piece : List ℕ) → stream ≡ gone ++ rest → cond over stream (stream ++ piece) ≡ gone ++ cond over rest (rest ++ piece)
 fed_left true stream gone rest piece left = left
 fed_left false stream gone rest piece left = ap (λ (t : List ℕ). t ++ piece) left ∙ append_assoc gone rest piece
+
+-- what is left is the stream without the frames given
+pub left_is : (calls : List Call) (rest : List ℕ) → IsLeft calls rest → rest ≡ drop (next_place calls) (stream_fed calls)
+left_is calls rest left = sym (drop_at (frames (bodies_given calls)) rest (next_place calls) refl) ∙ ap (drop (next_place calls)) (sym left)
 
 pub stands_fed : (first : ℕ) (f : FramerParts) (piece : List ℕ) (calls : List Call) → StandsFor first f calls → StandsFor first (fed f piece) (Fed piece ∷ calls)
 stands_fed first f piece calls s = record {
@@ -51,6 +55,7 @@ stands_fed first f piece calls s = record {
   left = subst (λ (over : Bool). cond over (stream_fed calls) (stream_fed calls ++ piece) ≡ frames (bodies_given calls) ++ cond f.over f.rest (f.rest ++ piece)) s.over (fed_left f.over (stream_fed calls) (frames (bodies_given calls)) f.rest piece s.left);
   limit = s.limit;
   over = s.over;
+  held = rw (s.held, s.over, left_is calls f.rest s.left) refl;
 }
 
 pub stands_raised : (first : ℕ) (f : FramerParts) (limit : ℕ) (calls : List Call) → f.limit ≤ limit → f.over ≡ false → StandsFor first f calls → StandsFor first (raised f limit) (Raised limit ∷ calls)
@@ -60,6 +65,7 @@ stands_raised first f limit calls le fine s = record {
   left = s.left;
   limit = refl;
   over = s.over;
+  held = s.held;
 }
 
 pub stands_gave : (first : ℕ) (f : FramerParts) (place : ℕ) (body : List ℕ) (calls : List Call) → place ≡ f.given → f.over ≡ false → IsFirst f.limit body f.rest → StandsFor first f calls
@@ -74,6 +80,7 @@ stands_gave first f place body calls place-is fine front s =
       left = left ∙ sym (append_assoc (frames (bodies_given calls)) (frame body) rest) ∙ ap (λ (t : List ℕ). t ++ rest) (sym (frames-last (bodies_given calls) body));
       limit = s.limit;
       over = s.over;
+      held = s.held;
     }
 
 pub stands_waited : (first : ℕ) (f : FramerParts) (calls : List Call) → f.over ≡ false → IsPartial f.limit f.rest → StandsFor first f calls → StandsFor first f (Waited ∷ calls)
@@ -85,14 +92,16 @@ stands_waited first f calls fine partial s =
       left = s.left;
       limit = s.limit;
       over = s.over;
+      held = s.held;
     }
 
 pub stands_refused : (first : ℕ) (f : FramerParts) (place len : ℕ) (calls : List Call) → place ≡ f.given → IsTooLong f.limit f.rest → len ≡ length_field f.rest → StandsFor first f calls
-    → StandsFor first (record { given = f.given; rest = f.rest; limit = f.limit; over = true }) (Refused place len ∷ calls)
+    → StandsFor first (refused f) (Refused place len ∷ calls)
 stands_refused first f place len calls place-is long len-is s = record {
   right = ((place-is ∙ s.given, (f.rest, s.left, record { whole = long.whole; above = omega (arith, long.above, s.limit) }, len-is)), s.right);
   given = s.given;
   left = s.left;
   limit = s.limit;
   over = refl;
+  held = s.held;
 }

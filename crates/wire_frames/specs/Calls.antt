@@ -1,5 +1,5 @@
--- The calls of a framer, the newest first: what they fed and gave, and when their answers were right.
-use Rattle.std.specs.Prelude.{◌≡◌, ℕ, ◌≤◌, Bool, true, false, List, [], ◌∷◌, ◌++◌, length, if◌then◌else◌}
+-- The calls of a framer, the latest first: what they fed and gave, and when their answers were right.
+use Rattle.std.specs.Prelude.{◌≡◌, ℕ, ◌≤◌, Bool, true, false, List, [], ◌∷◌, ◌++◌, length, drop, if◌then◌else◌}
 use Rattle.wire_frames.specs.Framing.{frame, frames, length_field, IsTooLong, Framed}
 use Rattle.wire_frames.specs.Framers.{FramerParts}
 
@@ -25,6 +25,12 @@ stream_fed [] = []
 stream_fed (Fed piece ∷ calls) = if is_refused calls then stream_fed calls else stream_fed calls ++ piece
 stream_fed (call ∷ calls) = stream_fed calls
 
+-- all pieces, one after another
+abbrev pub pieces_fed : List Call → List ℕ
+pieces_fed [] = []
+pieces_fed (Fed piece ∷ calls) = pieces_fed calls ++ piece
+pieces_fed (call ∷ calls) = pieces_fed calls
+
 -- the bodies of the frames given, in the stream's order
 abbrev pub bodies_given : List Call → List (List ℕ)
 bodies_given [] = []
@@ -45,6 +51,12 @@ limit_after first (call ∷ calls) = limit_after first calls
 abbrev pub IsLeft : List Call → List ℕ → Type 0
 IsLeft calls rest = stream_fed calls ≡ frames (bodies_given calls) ++ rest
 
+-- what the buffer holds: what was left when the latest piece came, and that piece
+abbrev pub held_after : List Call → ℕ
+held_after [] = 0
+held_after (Fed piece ∷ calls) = if is_refused calls then held_after calls else length (drop (next_place calls) (stream_fed calls) ++ piece)
+held_after (call ∷ calls) = held_after calls
+
 -- ---- when they were right
 
 -- after those calls, this one was right at the limit then in force
@@ -60,10 +72,15 @@ abbrev pub AreRight : ℕ → List Call → Type 0
 AreRight first [] = Unit {0}
 AreRight first (call ∷ calls) = IsRight first calls call × AreRight first calls
 
--- the parts that a framer keeps are those that these calls leave
+-- a framer's parts are the result of these calls
 pub record StandsFor (first : ℕ) (parts : FramerParts) (calls : List Call) : Type 0 where
   pub right : AreRight first calls
   pub given : parts.given ≡ next_place calls
   pub left : IsLeft calls parts.rest
   pub limit : parts.limit ≡ limit_after first calls
   pub over : parts.over ≡ is_refused calls
+  pub held : parts.held ≡ held_after calls
+
+-- from every list of calls that the old parts are the result of, this call leads to the new ones
+abbrev pub Extends : FramerParts → FramerParts → Call → Type 0
+Extends old new call = (first : ℕ) (calls : List Call) → StandsFor first old calls → StandsFor first new (call ∷ calls)

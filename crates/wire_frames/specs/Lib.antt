@@ -3,3 +3,4 @@ pub mod Framers
 pub mod Steps
 pub mod Calls
 pub mod Holding
+pub mod Cuts

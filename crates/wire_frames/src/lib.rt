@@ -2,7 +2,7 @@
 //! then exactly so many bytes of body (protocol reference, framing).
 //!
 //! It owns framing (`specs/Framing.antt`), what a framer keeps (`specs/Framers.antt`) and what it has
-//! done over all its calls (`specs/Calls.antt`, `specs/Holding.antt`). It may know no message, and
+//! done over all its calls (`specs/Calls.antt`, `specs/Holding.antt`, `specs/Cuts.antt`). It may know no message, and
 //! nothing of where bytes come from.
 #![tactic(auto)]
 
@@ -14,6 +14,6 @@ mod putting;
 mod tests;
 
 pub use framer::{FrameStep, Framer};
-pub use laws::{holds_little, however_cut, one_frame, one_framing};
+pub use laws::{holds_little, however_cut, one_framing};
 pub use limits::BODY_LIMIT;
 pub use putting::put_frame;

@@ -1,4 +1,4 @@
-//! How long bodies may be.
+//! Limits of framing.
 
-/// The longest body of a frame, in bytes.
+/// How long the body of a frame may be, in bytes.
 pub const BODY_LIMIT: u32 = 4_194_304;

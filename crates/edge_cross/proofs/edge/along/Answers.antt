@@ -1,5 +1,5 @@
 use Rattle.std.proofs.Common.{rules}
-use Rattle.edge_cross.proofs.Counted.{counted_from}
+use Rattle.edge_cross.proofs.Pixels.{counted_from}
 use Rattle.edge_cross.proofs.edge.along.Goals as goal
 
 pub returns-clause-value : goal.returns-clause-value

@@ -1,8 +1,8 @@
 use Rattle.std.proofs.Common.{arith, rules}
 use Rattle.std.proofs.lemmas.Int.{ints}
 use Rattle.share_base.specs.declared.shape.Side.TheVariants.{Right, Down}
-use Rattle.edge_cross.proofs.Passed.{passed, inside_columns, inside_rows}
-use Rattle.edge_cross.proofs.Counted.{along_stored}
+use Rattle.edge_cross.proofs.Edges.{passed, inside_columns, inside_rows}
+use Rattle.edge_cross.proofs.Pixels.{along_stored}
 use Rattle.edge_cross.proofs.edge.leaves.Goals as goal
 
 pub returns-then-x-shape-2-clause-leaves : goal.returns-then-x-shape-2-clause-leaves

@@ -3,7 +3,7 @@ use Rattle.std.proofs.lemmas.List.{nil_from_length}
 use Rattle.message_codec.specs.Fields.{Field}
 use Rattle.message_codec.specs.declared.reading.ReadError.{ReadError}
 use Rattle.message_codec.specs.Reading.{Fails, read_fields}
-use Rattle.message_codec.specs.Table.{SentBy, kinds, fields}
+use Rattle.message_codec.specs.Table.{SentBy, kinds, fields, has_list}
 use Rattle.message_codec.specs.Drafts.{draft_code, draft_fields}
 use Rattle.message_codec.proofs.CodeTexts.{code_at-begins, text_fits, no_code, no_sent}
 use Rattle.message_codec.proofs.Bodies.{reads_at, read_spells}
@@ -31,7 +31,7 @@ overflow_sub-at c =
     let left = c.in-Err-Short.left in
     let fields-at = c.split_at.result.1.now in
     let sent : SentBy c.in-Some.code c.args.from = search rules in
-    let read = subst (λ (e : ReadError). Fails e (read_fields (kinds c.in-Some.code) fields-at)) c.in-Err-Short.field-0-is c.in-Err-Short.ensures in
+    let read = subst (λ (e : ReadError). Fails (has_list c.in-Some.code) e (read_fields (kinds c.in-Some.code) fields-at)) c.in-Err-Short.field-0-is c.in-Err-Short.ensures in
     let reads = reads_at c.args.from c.args.body.now c.in-Some.code c.text.result.now fields-at (Err left) (sym c.in-Some.ensures) sent c.text.ensures c.split_at.ensures.back read in
     left_within c.args.from c.args.body.now left (λ i. omega (arith, c.type_inv.body i)) reads
 
@@ -41,7 +41,7 @@ returns-in-Err-Short-clause-bad c =
     let left = c.in-Err-Short.left in
     let fields-at = c.split_at.result.1.now in
     let sent : SentBy c.in-Some.code c.args.from = search rules in
-    let read = subst (λ (e : ReadError). Fails e (read_fields (kinds c.in-Some.code) fields-at)) c.in-Err-Short.field-0-is c.in-Err-Short.ensures in
+    let read = subst (λ (e : ReadError). Fails (has_list c.in-Some.code) e (read_fields (kinds c.in-Some.code) fields-at)) c.in-Err-Short.field-0-is c.in-Err-Short.ensures in
     let reads = reads_at c.args.from body c.in-Some.code c.text.result.now fields-at (Err left) (sym c.in-Some.ensures) sent c.text.ensures c.split_at.ensures.back read in
     from_faults (bad.Short (length body - left)) c.args.from body (λ i. omega (arith, c.type_inv.body i)) (left, reads, refl)
 
@@ -80,3 +80,13 @@ returns-in-Err-clause-bad c =
     (c.in-Ok.ensures.1 ∙ ap (λ (t : List ℕ). Ok (draft_fields d.0, t)) (nil_from_length d.1.now ends)) in
     from_faults c.in-Err.bad c.args.from c.args.body.now (λ i. omega (arith, c.type_inv.body i))
     (misfit_faults c.in-Err.bad c.args.from c.args.body.now (draft_code d.0) (draft_fields d.0) r c.in-Ok.ensures.0 c.in-Err.ensures.err)
+
+pub returns-in-Err-Memory-clause-bad : goal.returns-in-Err-Memory-clause-bad
+returns-in-Err-Memory-clause-bad c =
+    let found = c.in-Some.code in record {
+      code = found;
+      rest = _;
+      sent = search rules;
+      begins = code_at-begins c.args.from c.args.body.now found (sym c.in-Some.ensures);
+      list = subst (λ (e : ReadError). Fails (has_list found) e (read_fields (kinds found) c.split_at.result.1.now)) c.in-Err-Memory.field-0-is c.in-Err-Memory.ensures;
+    }

@@ -5,7 +5,7 @@ use Rattle.share_base.proofs.Digits.{digits_of_eight}
 use Rattle.share_base.proofs.decimal.put_u64.Goals as goal
 
 pub put_digits-requires : goal.put_digits-requires
-put_digits-requires c = omega (arith, digits_of_eight c.args.number (omega arith))
+put_digits-requires g c = omega (arith, digits_of_eight c.args.number (omega arith))
 
 pub returns-clause-bound : goal.returns-clause-bound
-returns-clause-bound c = omega (arith, digits_of_eight c.args.number (omega arith), ap length c.put_digits.ensures, length-append c.args.out.now (decimal c.args.number))
+returns-clause-bound g c = omega (arith, digits_of_eight c.args.number (omega arith), ap length c.put_digits.ensures.printed, length-append (g.B.Buffer.content c.args.out.now) (decimal c.args.number))

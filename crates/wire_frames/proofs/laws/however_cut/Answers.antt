@@ -1,4 +1,4 @@
-use Rattle.wire_frames.proofs.OneFraming as law
+use Rattle.wire_frames.proofs.HoweverCut as law
 use Rattle.wire_frames.proofs.laws.however_cut.Goals as goal
 
 pub returns : goal.returns
