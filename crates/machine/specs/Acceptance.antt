@@ -3,7 +3,7 @@ use Rattle.std.specs.Prelude.{ℕ, false, nat_le, pos, None, [], ◌∷◌, ◌+
 use Rattle.share_base.specs.declared.shape.Shape.{Shape}
 use Rattle.message_codec.specs.declared.messages.Msg.TheVariants as msg
 use Rattle.screen_config.specs.Configurations.{Configuration}
-use Rattle.keepalive_clock.specs.Moments.{moment_of}
+use Rattle.share_base.specs.Moments.{moment_of}
 use Rattle.hello_states.specs.declared.part_cause.PartCause.TheVariants as cause
 use Rattle.clip_chunks.specs.Rules.{first_clips}
 use Rattle.machine.specs.Scripts.{Script}

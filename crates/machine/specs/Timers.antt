@@ -2,7 +2,7 @@
 use Rattle.std.specs.Prelude.{ℕ, max, Bool, nat_le}
 use Rattle.message_codec.specs.declared.messages.Msg.TheVariants as msg
 use Rattle.edge_cross.specs.declared.gate.Waiting.{Waiting}
-use Rattle.keepalive_clock.specs.Moments.{moment_of}
+use Rattle.share_base.specs.Moments.{moment_of}
 use Rattle.hello_states.specs.declared.part_cause.PartCause.TheVariants as cause
 use Rattle.hello_states.specs.Phases.{is_dead_in, is_silent, is_beat_due_in, after_beat_in}
 use Rattle.machine.specs.Targets.{Client, Own}
