@@ -18,13 +18,13 @@ use Rattle.message_codec.proofs.OneVerdict.{regroup}
 use Rattle.message_codec.proofs.SpelledOrRefused.{spelled_or_refused}
 
 -- after some messages: the bytes are the frames of others, each where it may stand, and then a rest
-record Follows (r : Reader) (before : List Msg) (bytes : List ℕ) : Type 0 where
-  messages : List Msg
-  rest : List ℕ
-  bad : Option Reason
-  bytes_are : bytes ≡ frames_of messages ++ rest
-  good : AllGood r before messages
-  ends : Rests r (before ++ messages) bad rest
+pub record Follows (r : Reader) (before : List Msg) (bytes : List ℕ) : Type 0 where
+  pub messages : List Msg
+  pub rest : List ℕ
+  pub bad : Option Reason
+  pub bytes_are : bytes ≡ frames_of messages ++ rest
+  pub good : AllGood r before messages
+  pub ends : Rests r (before ++ messages) bad rest
 
 -- no message follows
 stops : (r : Reader) (before : List Msg) (bad : Option Reason) (bytes : List ℕ) → Rests r before bad bytes → Follows r before bytes
@@ -44,7 +44,7 @@ goes_on r before m more bytes good front f = record {
 
 -- ---- a frame at the front
 
-refused_is_bad : (r : Reader) (before : List Msg) (why : BadBody) (bytes : List ℕ) → IsRefused r before (reason_of why) bytes → IsBad r before (reason_of why) bytes
+pub refused_is_bad : (r : Reader) (before : List Msg) (why : BadBody) (bytes : List ℕ) → IsRefused r before (reason_of why) bytes → IsBad r before (reason_of why) bytes
 refused_is_bad r before bad.UnknownCode bytes h = h
 refused_is_bad r before why bytes h = h
 
@@ -74,7 +74,7 @@ at_frame r before body more bytes small within front later =
 is_shorter : (body more bytes : List ℕ) (n : ℕ) → bytes ≡ frame body ++ more → length bytes < suc n → length more < n
 is_shorter body more bytes n front lt = omega (arith, ap length front, length-append (frame body) more)
 
-follows : (n : ℕ) (r : Reader) (before : List Msg) (bytes : List ℕ) → length bytes < n → IsBytes bytes → Follows r before bytes
+pub follows : (n : ℕ) (r : Reader) (before : List Msg) (bytes : List ℕ) → length bytes < n → IsBytes bytes → Follows r before bytes
 follows zero r before bytes lt small = absurd (omega arith)
 follows (suc n) r before bytes lt small =
     let body : List ℕ = take (length_field bytes) (drop 4 bytes) in

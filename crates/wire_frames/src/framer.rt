@@ -129,6 +129,35 @@ impl Framer {
         Ok(())
     }
 
+    /// Returns the offset of the next frame in the stream, in bytes.
+    pub fn place(&self) -> u64
+        ensures { result ≡ self.now.given }
+    {
+        self.gone + self.given as u64
+    }
+
+    /// Returns what `next` would answer, and leaves the frame where it is.
+    pub fn peek(&self) -> FrameStep<'_>
+        ensures answers { Answers self.now result }
+        ensures bound { self.now.given + length self.now.rest < 2 ^ 63 }
+    {
+        let rest = &self.bytes[self.given..];
+        let place = self.gone + self.given as u64;
+        if rest.len() < 4 {
+            return FrameStep::More;
+        }
+        let len = first_length(rest);
+        if self.limit < len {
+            return FrameStep::TooLong { place, len };
+        }
+        let end = 4 + len as usize;
+        if end > rest.len() {
+            return FrameStep::More;
+        }
+        let body = &rest[4..end];
+        FrameStep::Frame { place, body }
+    }
+
     /// What stands at the front of the rest.
     #[tactic(auto, using(crate::proofs::First::bounded, crate::proofs::Histories::stands_refused))]
     pub fn next(&mut self) -> FrameStep<'_>

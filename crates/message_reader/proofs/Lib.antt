@@ -1,0 +1,3 @@
+pub mod Longer
+pub mod FrontFrames
+pub mod Stepping

@@ -1,0 +1,4 @@
+pub mod Roles
+pub mod ReaderParts
+pub mod Representation
+pub mod Steps
