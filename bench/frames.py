@@ -219,7 +219,9 @@ def compare(commands):
         return
     with tempfile.TemporaryDirectory() as folder:
         yardstick = pathlib.Path(folder) / "yardstick"
-        subprocess.run([compiler, "-O", "-o", yardstick, YARDSTICK], check=True)
+        if subprocess.run([compiler, "-O", "--edition", "2021", "-o", yardstick, YARDSTICK]).returncode:
+            print("bench/yardstick.rs does not compile with this rustc, so there are no ratios to plain Rust")
+            return
         print(f"user time, best of {ROUNDS}, beside the plain Rust of bench/yardstick.rs:")
         for name, pieces in COMPARED:
             stream = pathlib.Path(folder) / name

@@ -44,7 +44,11 @@ struct Screen {
 
 impl Screen {
     fn new() -> Screen {
-        Screen { keys: BTreeMap::new(), buttons: [false; 256], lines: Vec::new() }
+        Screen {
+            keys: BTreeMap::new(),
+            buttons: [false; 256],
+            lines: Vec::new(),
+        }
     }
 
     fn release_all(&mut self) -> io::Result<()> {
@@ -156,7 +160,9 @@ fn take_frames(screen: &mut Screen, bytes: &[u8]) -> io::Result<(usize, bool)> {
         }
         let Some(body) = rest.get(..length) else { break };
         at += 4 + length;
-        let Some((code, fields)) = body.split_at_checked(4) else { return Ok((at, false)) };
+        let Some((code, fields)) = body.split_at_checked(4) else {
+            return Ok((at, false));
+        };
         match screen.message(code, Fields(fields)) {
             Some(printed) => printed?,
             None => return Ok((at, false)),

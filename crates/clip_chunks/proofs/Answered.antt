@@ -1,17 +1,16 @@
 -- An assembly gives the wholes that its parts end.
-use Rattle.std.proofs.Common.{◌≡◌, ℕ, ◌+◌, Bool, true, false, not, ◌&&◌, cond, List, [], ◌∷◌, length, Option, Some, None, Result, Ok, Err, refl, sym, ◌∙◌, ap}
+use Rattle.std.proofs.Common.{◌≡◌, ℕ, ◌+◌, Bool, true, false, not, ◌&&◌, List, length, Option, Some, None, Result, Ok, Err, refl, sym, ◌∙◌, ap}
 use Rattle.std.specs.Prelude.{if◌then◌else◌, ◌==◌, nat_le, IfOk}
-use Rattle.share_base.specs.declared.clip_id.ClipId.{ClipId}
 use Rattle.message_codec.specs.declared.clip_mark.ClipMark.{ClipMark}
 use Rattle.message_codec.specs.declared.clip_mark.ClipMark.TheVariants as mark
 use Rattle.clip_chunks.specs.declared.run.Run.{Run}
 use Rattle.clip_chunks.specs.declared.took.Took.{Took}
 use Rattle.clip_chunks.specs.declared.took.Took.TheVariants.{Started, Going, Whole, Dropped}
-use Rattle.clip_chunks.specs.declared.took.Cause.TheVariants.{BadSize, TooLarge, NoStart, SeqChanged, Over, Mismatch}
-use Rattle.clip_chunks.specs.Parts.{Part, part, of_clip}
+use Rattle.clip_chunks.specs.declared.took.Cause.TheVariants.{TooLarge, SeqChanged, Over, Mismatch}
+use Rattle.clip_chunks.specs.Parts.{Part, part}
 use Rattle.clip_chunks.specs.Wholes.{size_of, EndsWhole}
-use Rattle.clip_chunks.specs.OpenRuns.{open_run, closes, whole_by, whole_at}
-use Rattle.clip_chunks.specs.Assemblies.{AssemblyParts, start_answer, chunk_answer, end_answer, answer, StandsFor, whole_in, Finds, GivesWhole, Answers}
+use Rattle.clip_chunks.specs.OpenRuns.{closes, whole_by, whole_at}
+use Rattle.clip_chunks.specs.Assemblies.{AssemblyParts, start_answer, chunk_answer, end_answer, answer, whole_in, IsAnswer, GivesWhole, IsRight, Answers}
 use Rattle.clip_chunks.proofs.EndedRuns.{ends_whole, whole_found}
 
 none_if : (b : Bool) (t u : Took) → whole_in t ≡ None → whole_in u ≡ None → whole_in (if b then t else u) ≡ None
@@ -52,15 +51,11 @@ gives Started limit newest older h = ends_none limit newest older h
 gives Going limit newest older h = ends_none limit newest older h
 gives (Dropped cause) limit newest older h = ends_none limit newest older h
 
-pub finds_rightly : (old : AssemblyParts) (m : ClipMark) (seq : ℕ) (bytes : List ℕ) (took : Took) → took ≡ answer old.limit m seq bytes old.run → Finds old m seq bytes took
-finds_rightly old m seq bytes took is limit clip parts stands =
-    ap whole_in is ∙ answered old.limit m seq bytes old.run ∙ ap (whole_by m seq) stands.run_is
-
-pub answers_rightly : (old : AssemblyParts) (m : ClipMark) (seq : ℕ) (bytes : List ℕ) (took : Took) → took ≡ answer old.limit m seq bytes old.run → Answers old m seq bytes took
+pub answers_rightly : (old : AssemblyParts) (m : ClipMark) (seq : ℕ) (bytes : List ℕ) (took : Took) → IsAnswer old m seq bytes took → Answers old m seq bytes took
 answers_rightly old m seq bytes took is limit clip parts stands =
-    gives took limit (part m clip seq bytes) parts (finds_rightly old m seq bytes took is limit clip parts stands)
+    let found : whole_in took ≡ whole_at limit (part m clip seq bytes) parts = ap whole_in is ∙ answered old.limit m seq bytes old.run ∙ ap (whole_by m seq) stands.run_is in
+    record { found = found; whole = gives took limit (part m clip seq bytes) parts found }
 
--- what holds of the right answer holds where there is one
-pub where_ok : {E : Type 0} (P : Took → Type 0) (right : Took) (r : Result Took E) → ((took : Took) → took ≡ right → P took) → IfOk r (λ took. took ≡ right) → IfOk r P
-where_ok P right (Ok took) from is = from took is
-where_ok P right (Err e) from is = is
+pub right_where_ok : {E : Type 0} (old : AssemblyParts) (m : ClipMark) (seq : ℕ) (bytes : List ℕ) (r : Result Took E) → IfOk r (λ took. IsAnswer old m seq bytes took) → IfOk r (λ took. Answers old m seq bytes took)
+right_where_ok old m seq bytes (Ok took) is = answers_rightly old m seq bytes took is
+right_where_ok old m seq bytes (Err e) is = is

@@ -1,20 +1,15 @@
 -- The frames of a clipboard, one after another.
-use Rattle.std.proofs.Common.{rules, ◌≡◌, ℕ, ◌+◌, ◌<◌, min, List, [], ◌∷◌, ◌++◌, length, map, take, refl, sym, ◌∙◌, ap, arith}
+use Rattle.std.proofs.Common.{◌≡◌, ℕ, ◌<◌, min, List, [], ◌∷◌, ◌++◌, length, map, sym, ◌∙◌, ap}
 use Rattle.std.specs.Fmt.{decimal}
 use Rattle.std.proofs.lemmas.List.{append_assoc, append-nil, map-append}
 use Rattle.std.proofs.lemmas.List.Concat.{flat_map-append}
 use Rattle.share_base.specs.declared.clip_id.ClipId.{ClipId}
 use Rattle.message_codec.specs.declared.clip_mark.ClipMark.{ClipMark}
 use Rattle.message_codec.specs.declared.clip_mark.ClipMark.TheVariants as mark
-use Rattle.message_codec.specs.declared.messages.Msg.{Msg}
 use Rattle.message_codec.specs.Streams.{frame_of, frames_of}
-use Rattle.clip_chunks.specs.Parts.{Part, part, run, message_of}
-use Rattle.clip_chunks.specs.Sending.{full_chunk, chunks_of, parts_of, part_frames, clip_frames}
+use Rattle.clip_chunks.specs.Parts.{Part, part, message_of}
+use Rattle.clip_chunks.specs.Sending.{part_frame, full_chunk, chunks_of, part_frames, clip_frames}
 use Rattle.clip_chunks.proofs.Cuts.{first_chunk, no_chunk}
-
--- the frame of one part
-abbrev pub part_frame : ClipMark → ClipId → ℕ → List ℕ → List ℕ
-part_frame m clip seq bytes = frame_of (message_of (part m clip seq bytes))
 
 -- the frames of chunks
 abbrev pub chunk_frames : ClipId → ℕ → List (List ℕ) → List ℕ

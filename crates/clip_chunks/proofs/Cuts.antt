@@ -1,8 +1,8 @@
 -- Chunks are the bytes, cut once.
-use Rattle.std.proofs.Common.{rules, ◌≡◌, ℕ, ◌+◌, ◌<◌, ◌≤◌, min, zero, suc, pred, List, [], ◌∷◌, ◌++◌, length, take, drop, refl, sym, ◌∙◌, ap, subst, inl, inr, ◌⊎◌, arith}
+use Rattle.std.proofs.Common.{◌≡◌, ℕ, ◌<◌, ◌≤◌, min, zero, suc, pred, List, [], ◌∷◌, ◌++◌, length, take, drop, refl, sym, ◌∙◌, ap, arith}
 use Rattle.std.specs.List.{concat}
-use Rattle.std.proofs.lemmas.List.{length-append, length-take, length-drop, take-append-drop, take_all, take-append-le, append_cancel_left, append-nil}
-use Rattle.clip_chunks.specs.Sending.{cut_into, full_chunk, chunks_of, AreFull}
+use Rattle.std.proofs.lemmas.List.{length-append, length-drop, take-append-drop, take_all, take-append-le, append_cancel_left, append-nil}
+use Rattle.clip_chunks.specs.Sending.{cut_into, full_chunk, chunks_of}
 
 empty_is : (xs : List ℕ) → length xs ≤ 0 → xs ≡ []
 empty_is [] h = refl

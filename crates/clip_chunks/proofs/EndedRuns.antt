@@ -1,5 +1,5 @@
 -- The whole that a part ends is the one that it was said to end.
-use Rattle.std.proofs.Common.{◌≡◌, ℕ, ◌≤◌, Bool, true, false, ◌&&◌, cond, List, [], ◌∷◌, ◌++◌, length, map, Option, Some, None, refl, sym, ◌∙◌, ap, subst, arith}
+use Rattle.std.proofs.Common.{◌≡◌, ℕ, ◌≤◌, Bool, true, false, ◌&&◌, cond, List, [], ◌∷◌, ◌++◌, length, map, Option, Some, None, refl, sym, ◌∙◌, ap, arith}
 use Rattle.std.specs.Prelude.{if◌then◌else◌, ◌==◌, reverse}
 use Rattle.std.specs.List.{concat}
 use Rattle.std.proofs.lemmas.List.{append_assoc, append-nil, map-append, reverse-append, reverse-reverse}
@@ -8,8 +8,8 @@ use Rattle.share_base.specs.declared.clip_id.ClipId.{ClipId}
 use Rattle.message_codec.specs.declared.clip_mark.ClipMark.{ClipMark}
 use Rattle.message_codec.specs.declared.clip_mark.ClipMark.TheVariants as mark
 use Rattle.clip_chunks.specs.declared.run.Run.{Run}
-use Rattle.clip_chunks.specs.Parts.{Part, part, run, same_clip, of_clip}
-use Rattle.clip_chunks.specs.Wholes.{size_of, IsWhole, EndsWhole}
+use Rattle.clip_chunks.specs.Parts.{Part, part, run, of_clip}
+use Rattle.clip_chunks.specs.Wholes.{size_of, EndsWhole}
 use Rattle.clip_chunks.specs.OpenRuns.{open_run, closes, whole_by, whole_at}
 use Rattle.clip_chunks.proofs.Runs.{joined, begun, IsOpen, both, clip_itself, is_open, opens_all}
 

@@ -1,7 +1,7 @@
 -- Every chunk but the last is full.
-use Rattle.std.proofs.Common.{rules, ◌≡◌, ℕ, ◌+◌, ◌-◌, ◌<◌, ◌≤◌, min, zero, suc, List, [], ◌∷◌, ◌++◌, length, take, drop, refl, sym, ◌∙◌, ap, arith}
+use Rattle.std.proofs.Common.{◌≡◌, ℕ, ◌<◌, ◌≤◌, min, zero, suc, List, [], ◌∷◌, length, take, drop, arith}
 use Rattle.std.proofs.lemmas.List.{length-take, length-drop}
-use Rattle.clip_chunks.specs.Sending.{cut_into, full_chunk, chunks_of, AreFull, IsCut}
+use Rattle.clip_chunks.specs.Sending.{cut_into, full_chunk, AreFull, IsCut}
 use Rattle.clip_chunks.proofs.Cuts.{cut-concat}
 
 -- a full chunk before full ones, or a last one

@@ -1,18 +1,16 @@
 -- The parts that a clipboard is cut into are one whole.
-use Rattle.std.proofs.Common.{rules, ◌≡◌, ℕ, ◌+◌, ◌<◌, ◌≤◌, ◌^◌, Bool, true, ◌&&◌, List, [], ◌∷◌, ◌++◌, length, map, Option, Some, None, refl, sym, ◌∙◌, ap, arith}
+use Rattle.std.proofs.Common.{◌≡◌, ℕ, ◌<◌, ◌≤◌, ◌^◌, true, List, [], ◌∷◌, ◌++◌, length, map, Some, refl, sym, ◌∙◌, ap, arith}
 use Rattle.std.specs.Prelude.{reverse}
 use Rattle.std.specs.Fmt.{decimal}
-use Rattle.std.specs.List.{concat, list_all, filter_map}
+use Rattle.std.specs.List.{concat, list_all}
 use Rattle.std.specs.Char.{is_ascii_digit}
-use Rattle.std.specs.Str.Parse.{digits_value}
-use Rattle.std.proofs.lemmas.List.{append-nil, reverse-reverse}
+use Rattle.std.proofs.lemmas.List.{reverse-reverse}
 use Rattle.std.proofs.lemmas.Fmt.{digits_decimal, digits_value-decimal, decimal_nonempty, length-decimal-le}
 use Rattle.share_base.specs.declared.clip_id.ClipId.{ClipId}
 use Rattle.message_codec.specs.declared.clip_mark.ClipMark.TheVariants as mark
-use Rattle.message_codec.specs.declared.messages.Msg.{Msg}
 use Rattle.clip_chunks.specs.Parts.{Part, part, run, message_of, parts_among, of_clip}
-use Rattle.clip_chunks.specs.Wholes.{size_of, IsWhole, EndsWhole}
-use Rattle.clip_chunks.specs.OpenRuns.{Whole, whole_of, whole_at, wholes, wholes_among}
+use Rattle.clip_chunks.specs.Wholes.{size_of, EndsWhole}
+use Rattle.clip_chunks.specs.OpenRuns.{Whole, whole_of, whole_at, wholes}
 use Rattle.clip_chunks.specs.Sending.{full_chunk, chunks_of, parts_of, HoldsOne}
 use Rattle.clip_chunks.proofs.Sizes.{digits, size_of-some}
 use Rattle.clip_chunks.proofs.Cuts.{cut-concat}

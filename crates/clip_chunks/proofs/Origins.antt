@@ -1,10 +1,10 @@
 -- Known bytes were brought by a copy or by the owner's whole.
-use Rattle.std.proofs.Common.{◌≡◌, ℕ, Bool, true, false, ◌&&◌, List, [], ◌∷◌, ◌++◌, Option, Some, None, refl, sym, ◌∙◌, ap, subst}
+use Rattle.std.proofs.Common.{◌≡◌, ℕ, Bool, true, false, ◌&&◌, List, [], ◌∷◌, Option, Some, None, refl, sym, ◌∙◌, ap, subst}
 use Rattle.std.specs.Prelude.{if◌then◌else◌, ◌==◌, nat_le}
 use Rattle.std.proofs.lemmas.Bool.{eqb-true}
 use Rattle.share_base.specs.declared.clip_id.ClipId.{ClipId}
 use Rattle.share_base.specs.declared.clip_id.ClipId.TheVariants.{Clipboard, Selection}
-use Rattle.clip_chunks.specs.Clips.{Clip, Clips, clip_of, with_clip}
+use Rattle.clip_chunks.specs.Clips.{Clip, clip_of, with_clip}
 use Rattle.clip_chunks.specs.Rules.{copy_counts, grab_counts, whole_counts, known, unknown, dirtied, joined, left, entered}
 use Rattle.clip_chunks.specs.Calls.{Call, Copied, Grabbed, Sent, Joined, Left, Entered, ruled, clips_after}
 use Rattle.clip_chunks.specs.Origins.{Brings, WereBrought, KnownWereBrought}

@@ -6,7 +6,7 @@ use Rattle.std.proofs.lemmas.List.{append-nil, reverse-append}
 use Rattle.std.proofs.lemmas.List.Elements.{filter_map-append}
 use Rattle.message_codec.specs.declared.messages.Msg.{Msg}
 use Rattle.clip_chunks.specs.Parts.{Part, part_of, parts_among}
-use Rattle.clip_chunks.specs.OpenRuns.{Whole, wholes, wholes_among, brought}
+use Rattle.clip_chunks.specs.OpenRuns.{wholes, wholes_among, brought}
 
 -- the parts with those of one more message
 one_more : (limit : ℕ) (parts : List Part) (p : Option Part) (more : List Part) → more ≡ filter_map (λ (x : Option Part). x) (p ∷ []) → wholes limit (reverse (parts ++ more)) ≡ wholes limit (reverse parts) ++ brought limit p (reverse parts)

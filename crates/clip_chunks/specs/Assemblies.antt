@@ -1,5 +1,5 @@
 -- What an assembly keeps and answers.
-use Rattle.std.specs.Prelude.{◌≡◌, ℕ, ◌+◌, ◌≤◌, Bool, not, ◌==◌, nat_le, List, [], ◌∷◌, length, Option, Some, None, IfSome, if◌then◌else◌}
+use Rattle.std.specs.Prelude.{◌≡◌, ℕ, ◌+◌, ◌≤◌, not, ◌==◌, nat_le, List, ◌∷◌, length, Option, Some, None, IfSome, if◌then◌else◌}
 use Rattle.share_base.specs.declared.clip_id.ClipId.{ClipId}
 use Rattle.message_codec.specs.declared.clip_mark.ClipMark.{ClipMark}
 use Rattle.message_codec.specs.declared.clip_mark.ClipMark.TheVariants as mark
@@ -46,6 +46,16 @@ answer limit mark.Start seq bytes r = start_answer limit (size_of bytes)
 answer limit mark.Chunk seq bytes r = chunk_answer seq bytes r
 answer limit mark.End seq bytes r = end_answer seq r
 
+-- ---- one call
+
+-- the answer is that to the part, by what was kept
+abbrev pub IsAnswer : AssemblyParts → ClipMark → ℕ → List ℕ → Took → Type 0
+IsAnswer old mark seq bytes took = took ≡ answer old.limit mark seq bytes old.run
+
+-- the run is kept that the part leaves
+abbrev pub Keeps : AssemblyParts → AssemblyParts → ClipMark → ℕ → List ℕ → Type 0
+Keeps old new mark seq bytes = new ≡ record old { run = run_after old.limit mark seq bytes old.run }
+
 -- ---- over all calls
 
 -- the assembly keeps what a clipboard's parts leave, the newest first
@@ -64,10 +74,6 @@ whole_in Started = None
 whole_in Going = None
 whole_in (Dropped cause) = None
 
--- whatever parts the assembly stood for, it gives what is found to be the whole that one more ends
-abbrev pub Finds : AssemblyParts → ClipMark → ℕ → List ℕ → Took → Type 0
-Finds old mark seq bytes took = (limit : ℕ) (clip : ClipId) (parts : List Part) → StandsFor limit clip old parts → whole_in took ≡ whole_at limit (part mark clip seq bytes) parts
-
 -- the answer is the whole that the newest part ends; another one comes where it ends none
 abbrev pub GivesWhole : Took → ℕ → Part → List Part → Type 0
 GivesWhole (Whole bytes) limit newest older = EndsWhole limit bytes newest older
@@ -75,6 +81,12 @@ GivesWhole Started limit newest older = (bytes : List ℕ) → EndsWhole limit b
 GivesWhole Going limit newest older = (bytes : List ℕ) → EndsWhole limit bytes newest older → ⊥
 GivesWhole (Dropped cause) limit newest older = (bytes : List ℕ) → EndsWhole limit bytes newest older → ⊥
 
--- whatever parts the assembly stood for, that was answered to one more
+-- and it is what is found by the run that was open
+pub record IsRight (took : Took) (limit : ℕ) (newest : Part) (older : List Part) : Type 0 where
+  pub found : whole_in took ≡ whole_at limit newest older
+  pub whole : GivesWhole took limit newest older
+
+-- whatever parts the assembly stood for, the answer to one more is right
 abbrev pub Answers : AssemblyParts → ClipMark → ℕ → List ℕ → Took → Type 0
-Answers old mark seq bytes took = (limit : ℕ) (clip : ClipId) (parts : List Part) → StandsFor limit clip old parts → GivesWhole took limit (part mark clip seq bytes) parts
+Answers old mark seq bytes took =
+    (limit : ℕ) (clip : ClipId) (parts : List Part) → StandsFor limit clip old parts → IsRight took limit (part mark clip seq bytes) parts

@@ -10,7 +10,7 @@ use Rattle.clip_chunks.specs.declared.kept.Kept.{Kept}
 use Rattle.clip_chunks.specs.declared.book.ClipBook.{ClipBook}
 use Rattle.clip_chunks.specs.Clips.{Clip, Clips, clip_of, is_among, is_dirty}
 use Rattle.clip_chunks.specs.contracts.book.ClipBook.{the_row}
-use Rattle.clip_chunks.specs.Rules.{grab_counts, whole_counts, given}
+use Rattle.clip_chunks.specs.Rules.{grab_counts, whole_counts, known, given}
 use Rattle.clip_chunks.specs.Calls.{Call, Entered, ruled}
 
 -- the list has the set's screens
@@ -22,6 +22,10 @@ pub record IsClip (kept : Kept) (c : Clip) : Type 0 where
   pub seq : kept.seq ≡ c.seq
   pub bytes : kept.bytes ≡ c.bytes
   pub dirty : AreIn kept.dirty c.dirty
+
+-- it is known, and all screens of the set but the owner are dirty
+abbrev pub IsKnown : Kept → ℕ → ℕ → List ℕ → ℕ → Type 0
+IsKnown kept owner seq bytes set = (screens : List ℕ) → AreIn set screens → IsClip kept (known owner seq bytes screens)
 
 -- whatever clipboard was kept, what is kept is what the rule makes of it
 abbrev pub Changes : Kept → Kept → (Clip → Clip) → Type 0

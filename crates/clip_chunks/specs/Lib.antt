@@ -8,3 +8,4 @@ pub mod Rules
 pub mod Calls
 pub mod Books
 pub mod Origins
+pub mod Laws

@@ -7,8 +7,8 @@ use Rattle.share_base.specs.declared.clip_id.ClipId.{ClipId}
 use Rattle.share_base.specs.Clips.{clip_number}
 use Rattle.message_codec.specs.declared.clip_mark.ClipMark.{ClipMark}
 use Rattle.message_codec.specs.Marks.{mark_number}
-use Rattle.message_codec.specs.Streams.{frames_of}
-use Rattle.clip_chunks.specs.Parts.{Part, run, message_of}
+use Rattle.message_codec.specs.Streams.{frame_of, frames_of}
+use Rattle.clip_chunks.specs.Parts.{Part, part, run, message_of}
 use Rattle.clip_chunks.specs.OpenRuns.{wholes_among}
 
 -- at most n chunks of that size
@@ -39,6 +39,10 @@ parts_of clip seq bytes = run clip seq (decimal (length bytes)) (chunks_of bytes
 abbrev pub before_bytes : ClipId → ℕ → ClipMark → ℕ → List ℕ
 before_bytes clip seq mark len =
     to_be_bytes w32 (14 + len) ++ (codes "DCLP" ++ (clip_number clip ∷ (to_be_bytes w32 seq ++ (mark_number mark ∷ to_be_bytes w32 len))))
+
+-- the frame of the message of one part
+abbrev pub part_frame : ClipMark → ClipId → ℕ → List ℕ → List ℕ
+part_frame mark clip seq bytes = frame_of (message_of (part mark clip seq bytes))
 
 -- the frames of the messages of parts
 abbrev pub part_frames : List Part → List ℕ

@@ -1,10 +1,9 @@
 //! Putting the parts of a clipboard together.
 
-ghost use Rattle.std.specs.Prelude.{◌≡◌, ◌≤◌, ◌<◌, ◌^◌, ◌∷◌, [], Some, None, IfOk, OnOk, OnErr, length};
+ghost use Rattle.std.specs.Prelude.{◌≡◌, [], None, IfOk, OnOk, OnErr};
 ghost use Rattle.share_base.specs.declared.clip_id.ClipId.{ClipId as Clip};
-ghost use Rattle.clip_chunks.specs.Wholes.{size_of};
-ghost use Rattle.clip_chunks.specs.OpenRuns.{opens, goes_on, run_after};
-ghost use Rattle.clip_chunks.specs.Assemblies.{AssemblyParts, HoldsLittle, start_answer, chunk_answer, end_answer, answer, StandsFor, Takes, Finds, Answers};
+ghost use Rattle.message_codec.specs.declared.clip_mark.ClipMark.TheVariants as mark;
+ghost use Rattle.clip_chunks.specs.Assemblies.{AssemblyParts, HoldsLittle, IsAnswer, Keeps, StandsFor, Takes, Answers};
 
 use crate::run::Run;
 use crate::size::size_of as read_size;
@@ -14,8 +13,8 @@ use share_base::{Octets, OutOfMemory};
 use std::alloc::Global;
 use std::marker::Model;
 
-/// Puts the parts of one clipboard together that come on one connection. It holds at most as many bytes
-/// as the latest start said, and takes memory for them only as they come. Contracts see it as
+/// Puts the parts of one clipboard together, as they come on one connection. It holds at most as many
+/// bytes as the latest start said, and allocates for them only as they come. Contracts see it as
 /// `AssemblyParts`, and as the result of the parts that it was given.
 #[derive(Drop)]
 pub struct Assembly {
@@ -36,7 +35,7 @@ impl Model for Assembly {
 }
 
 impl Assembly {
-    /// An assembly that was given no part, of clipboards of at most `limit` bytes. It takes no memory.
+    /// Makes an assembly for clipboards of at most `limit` bytes. It doesn't allocate.
     pub fn new(alloc: Global, limit: u32) -> Assembly
         ensures empty { result ≡ record { limit = limit; run = None } }
         ensures stands { (clip : Clip) → StandsFor limit clip result [] }
@@ -48,13 +47,12 @@ impl Assembly {
         }
     }
 
-    /// Takes the next part of the clipboard. A start replaces a clipboard that was on its way, and after
-    /// a `Dropped` none is. The bytes of an end are ignored. After `OutOfMemory` the part counts as not
-    /// given.
+    /// Takes the next part of the clipboard. A start replaces what was on its way, and after a `Dropped`
+    /// nothing is. The bytes of an end are ignored. On `OutOfMemory` nothing changes, as if the part had
+    /// not been given.
     pub fn take(&mut self, seq: u32, mark: ClipMark, bytes: &[u8]) -> Result<Took, OutOfMemory>
-        ensures answer { IfOk result (λ took. took ≡ answer self.old.limit mark seq bytes.now self.old.run) }
-        ensures kept { OnOk result (self.new ≡ record self.old { run = run_after self.old.limit mark seq bytes.now self.old.run }) }
-        ensures found { IfOk result (λ took. Finds self.old mark seq bytes.now took) }
+        ensures answer { IfOk result (λ took. IsAnswer self.old mark seq bytes.now took) }
+        ensures kept { OnOk result (Keeps self.old self.new mark seq bytes.now) }
         ensures wholes { IfOk result (λ took. Answers self.old mark seq bytes.now took) }
         ensures stands { OnOk result (Takes self.old self.new mark seq bytes.now) }
         ensures err { OnErr result (self.new ≡ self.old) }
@@ -68,8 +66,8 @@ impl Assembly {
     }
 
     fn start(&mut self, seq: u32, text: &[u8]) -> Took
-        ensures answer { result ≡ start_answer self.old.limit (size_of text.now) }
-        ensures kept { self.new ≡ record self.old { run = opens self.old.limit seq (size_of text.now) } }
+        ensures answer { IsAnswer self.old mark.Start seq text.now result }
+        ensures kept { Keeps self.old self.new mark.Start seq text.now }
         ensures bound { HoldsLittle self.new }
     {
         self.run = None;
@@ -88,8 +86,8 @@ impl Assembly {
     }
 
     fn add(&mut self, seq: u32, bytes: &[u8]) -> Result<Took, OutOfMemory>
-        ensures answer { IfOk result (λ took. took ≡ chunk_answer seq bytes.now self.old.run) }
-        ensures kept { OnOk result (self.new ≡ record self.old { run = goes_on seq bytes.now self.old.run }) }
+        ensures answer { IfOk result (λ took. IsAnswer self.old mark.Chunk seq bytes.now took) }
+        ensures kept { OnOk result (Keeps self.old self.new mark.Chunk seq bytes.now) }
         ensures err { OnErr result (self.new ≡ self.old) }
         ensures bound { HoldsLittle self.new }
     {
@@ -116,8 +114,8 @@ impl Assembly {
     }
 
     fn end(&mut self, seq: u32) -> Took
-        ensures answer { result ≡ end_answer seq self.old.run }
-        ensures kept { self.new ≡ record self.old { run = None } }
+        ensures answer { IsAnswer self.old mark.End seq [] result }
+        ensures kept { Keeps self.old self.new mark.End seq [] }
         ensures bound { HoldsLittle self.new }
     {
         let Some(run) = self.run.take() else {

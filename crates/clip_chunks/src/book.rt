@@ -10,9 +10,9 @@ use crate::kept::Kept;
 use share_base::{ClipId, Octets, OutOfMemory, ScreenNo, ScreenSet};
 use std::alloc::Global;
 
-/// Both clipboards: who owns each, the sequence of what changed it last, its bytes where they are known,
-/// and the dirty screens, which are still to be sent them. Screens have numbers below 64. Only `copied`
-/// and `whole` take memory.
+/// Both clipboards: who owns each, the sequence of the latest copy, grab or whole that counted, the bytes
+/// where they are known, and the dirty screens, which are still to be sent them. Screens have numbers
+/// below 64. Only `copied` and `whole` allocate.
 #[derive(Drop)]
 pub struct ClipBook {
     alloc: Global,
@@ -26,8 +26,8 @@ pub struct ClipBook {
 impl ClipBook {
     ghost use Rattle.clip_chunks.specs.Books.{StandsAt, Follows, FollowsWith, GrabAnswer, WholeAnswer, WasDirty, Gives, RestsAfter, kept_of, with_kept};
 
-    /// Both clipboards at the start: the primary's, with sequence 0 and unknown bytes. A copy may have at
-    /// most `limit` bytes.
+    /// Makes both clipboards the primary's, with sequence 0 and unknown bytes. A copy may have at most
+    /// `limit` bytes, which are at most 4,194,304.
     pub fn new(alloc: Global, primary: ScreenNo, limit: u32) -> ClipBook
         requires screen { primary.0 < 64 }
         requires limit { limit ≤ 4194304 }
@@ -44,9 +44,10 @@ impl ClipBook {
         }
     }
 
-    /// A copy on the primary, at the machine's sequence, with these screens joined. Returns whether it
-    /// counts: it doesn't if it has more bytes than the limit, and then changes nothing. Nor does it
-    /// after `OutOfMemory`.
+    /// Takes a copy that the primary made, at the machine's sequence and with these screens joined: the
+    /// primary owns the clipboard, its bytes are known, and every other joined screen is dirty. Returns
+    /// whether the copy counts, which it does unless it has more bytes than the limit. If it doesn't, or
+    /// on `OutOfMemory`, nothing changes.
     pub fn copied(
         &mut self,
         clip: ClipId,
@@ -54,9 +55,10 @@ impl ClipBook {
         machine: u32,
         joined: &ScreenSet,
     ) -> Result<bool, OutOfMemory>
-        ensures counts { IfOk result (λ counts. counts ≡ copy_counts self.old.limit bytes.now) }
-        ensures follows { OnOk result (FollowsWith joined.now self.old self.new (Copied clip bytes.now machine)) }
-        ensures unchanged { IfOk result (λ counts. counts ≡ false → self.new ≡ self.old) }
+        ensures counts { IfOk result (λ is. is ≡ copy_counts self.old.limit bytes.now) }
+        ensures follows { OnOk result (FollowsWith joined.now self.old self.new
+            (Copied clip bytes.now machine)) }
+        ensures unchanged { IfOk result (λ is. is ≡ false → self.new ≡ self.old) }
         ensures err { OnErr result (self.new ≡ self.old) }
     {
         if bytes.len() > self.limit as usize {
@@ -69,8 +71,9 @@ impl ClipBook {
         Ok(true)
     }
 
-    /// A grab by a client's screen, with the sequence of its message. Returns whether it counts: if its
-    /// sequence is at least the kept one and at most the machine's. Else it changes nothing.
+    /// Takes a grab by a client's screen, with the sequence of its message: the screen owns the clipboard,
+    /// its bytes are unknown, and no screen is dirty. Returns whether the grab counts, which it does if
+    /// its sequence is at least the kept one and at most the machine's. If it doesn't, nothing changes.
     pub fn grabbed(&mut self, clip: ClipId, by: ScreenNo, given: u32, machine: u32) -> bool
         ensures counts { GrabAnswer self.old clip given machine result }
         ensures follows { Follows self.old self.new (Grabbed clip by.0 given machine) }
@@ -83,10 +86,11 @@ impl ClipBook {
         true
     }
 
-    /// A whole clipboard of at most 4,194,304 bytes from a client's screen, with the sequence of its
-    /// messages, and with these screens joined. Returns whether it counts: if that screen is the owner
-    /// and the sequence is at least the kept one and at most the machine's. Else it changes nothing. Nor
-    /// does it after `OutOfMemory`.
+    /// Takes a whole clipboard of at most 4,194,304 bytes from a client's screen, with the sequence of its
+    /// messages and with these screens joined: its bytes are known, and every joined screen but that one
+    /// is dirty. Returns whether it counts, which it does if the screen is the owner and the sequence is
+    /// at least the kept one and at most the machine's. If it doesn't, or on `OutOfMemory`, nothing
+    /// changes.
     pub fn whole(
         &mut self,
         clip: ClipId,
@@ -98,9 +102,10 @@ impl ClipBook {
     ) -> Result<bool, OutOfMemory>
         requires screen { by.0 < 64 }
         requires short { length bytes.now ≤ 4194304 }
-        ensures counts { IfOk result (λ counts. WholeAnswer self.old clip by.0 given machine counts) }
-        ensures follows { OnOk result (FollowsWith joined.now self.old self.new (Sent clip by.0 given machine bytes.now)) }
-        ensures unchanged { IfOk result (λ counts. counts ≡ false → self.new ≡ self.old) }
+        ensures counts { IfOk result (λ is. WholeAnswer self.old clip by.0 given machine is) }
+        ensures follows { OnOk result (FollowsWith joined.now self.old self.new
+            (Sent clip by.0 given machine bytes.now)) }
+        ensures unchanged { IfOk result (λ is. is ≡ false → self.new ≡ self.old) }
         ensures err { OnErr result (self.new ≡ self.old) }
     {
         let kept = self.kept(clip);
@@ -113,7 +118,7 @@ impl ClipBook {
         Ok(true)
     }
 
-    /// A screen joined: it is dirty for each clipboard that is known.
+    /// Marks a screen that joined as dirty for each clipboard whose bytes are known.
     pub fn joined(&mut self, no: ScreenNo)
         requires { no.0 < 64 }
         ensures { Follows self.old self.new (Joined no.0) }
@@ -122,7 +127,7 @@ impl ClipBook {
         self.selection.join(no);
     }
 
-    /// A screen left: the primary owns what it owned, with bytes and sequence unchanged.
+    /// Gives what a screen that left owned to the primary, with bytes, sequence and dirty screens unchanged.
     pub fn left(&mut self, no: ScreenNo)
         ensures { Follows self.old self.new (Left no.0) }
     {
@@ -131,8 +136,8 @@ impl ClipBook {
         self.selection.leave(no, primary);
     }
 
-    /// A screen was entered: the known bytes, if the screen is dirty, which it is no longer. `None` if it
-    /// isn't dirty.
+    /// Lends the known bytes to a dirty screen that was entered, and makes it clean. `None` if it isn't
+    /// dirty.
     pub fn entered(&mut self, clip: ClipId, no: ScreenNo) -> Option<&[u8]>
         requires { no.0 < 64 }
         ensures gives { Gives self.old clip no.0 result }

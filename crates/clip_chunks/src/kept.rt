@@ -5,12 +5,12 @@ ghost use Rattle.std.specs.Option.{option_map};
 ghost use Rattle.std.specs.Borrow.{Bor};
 ghost use Rattle.share_base.specs.Screens.{has};
 ghost use Rattle.clip_chunks.specs.Clips.{Clip, is_dirty};
-ghost use Rattle.clip_chunks.specs.Rules.{known, unknown, joined, left, entered};
+ghost use Rattle.clip_chunks.specs.Rules.{unknown, joined, left, entered};
 
 use share_base::{Octets, ScreenNo, ScreenSet};
 
-/// One clipboard: who owns it, the sequence of what changed it last, its bytes where they are known, and
-/// the screens that are still to be sent them.
+/// One clipboard: its owner, the sequence of the latest copy, grab or whole that counted, its bytes where
+/// they are known, and the screens that are still to be sent them.
 #[derive(Debug, Drop)]
 pub(crate) struct Kept {
     owner: ScreenNo,
@@ -21,9 +21,9 @@ pub(crate) struct Kept {
 }
 
 impl Kept {
-    ghost use Rattle.clip_chunks.specs.Books.{AreIn, IsClip, Changes};
+    ghost use Rattle.clip_chunks.specs.Books.{IsClip, IsKnown, Changes};
 
-    /// A clipboard of which the bytes are unknown.
+    /// Makes a clipboard whose bytes are unknown.
     pub(crate) fn unknown(owner: ScreenNo, seq: u32) -> Kept
         ensures { IsClip result (unknown owner.0 seq) }
     {
@@ -35,10 +35,10 @@ impl Kept {
         }
     }
 
-    /// A clipboard of which the bytes are known, to all screens but the owner's still unsent.
+    /// Makes a clipboard whose bytes are known. Every joined screen but the owner is dirty.
     pub(crate) fn known(owner: ScreenNo, seq: u32, bytes: Octets, joined: &ScreenSet) -> Kept
         requires { owner.0 < 64 }
-        ensures { (screens : List ℕ) → AreIn joined.now screens → IsClip result (known owner.0 seq bytes screens) }
+        ensures { IsKnown result owner.0 seq bytes joined.now }
     {
         let mut dirty = *joined;
         dirty.remove(owner);
@@ -50,20 +50,21 @@ impl Kept {
         }
     }
 
-    /// Whether a sequence is at least the kept one and at most the machine's.
+    /// Returns whether a sequence is at least the kept one and at most the machine's.
     pub(crate) fn is_current(&self, given: u32, machine: u32) -> bool
         ensures { result ≡ (nat_le self.now.seq given && nat_le given machine) }
     {
         self.seq <= given && given <= machine
     }
 
+    /// Returns whether a screen owns it.
     pub(crate) fn is_owner(&self, no: ScreenNo) -> bool
         ensures { result ≡ (self.now.owner.0 == no.0) }
     {
         self.owner == no
     }
 
-    /// A screen joined: it is dirty where the bytes are known.
+    /// Marks a screen that joined as dirty if the bytes are known.
     pub(crate) fn join(&mut self, no: ScreenNo)
         requires { no.0 < 64 }
         ensures { Changes self.old self.new (joined no.0) }
@@ -73,7 +74,7 @@ impl Kept {
         }
     }
 
-    /// A screen left: what it owned is the primary's.
+    /// Gives the clipboard to the primary if the screen that left owned it.
     pub(crate) fn leave(&mut self, no: ScreenNo, primary: ScreenNo)
         ensures { Changes self.old self.new (left primary.0 no.0) }
     {
@@ -82,7 +83,7 @@ impl Kept {
         }
     }
 
-    /// Makes a screen clean, and tells whether it was dirty.
+    /// Makes a screen clean, and returns whether it was dirty.
     pub(crate) fn clean(&mut self, no: ScreenNo) -> bool
         requires { no.0 < 64 }
         ensures dirty { (c : Clip) → IsClip self.old c → result ≡ is_dirty no.0 c }
@@ -93,7 +94,7 @@ impl Kept {
         dirty
     }
 
-    /// The bytes where they are known.
+    /// Lends the bytes if they are known.
     pub(crate) fn bytes(&self) -> Option<&[u8]>
         ensures { option_map (λ (b : Bor (List ℕ)). b.now) result ≡ self.now.bytes }
     {

@@ -1,9 +1,7 @@
 //! Cutting a clipboard into frames.
 
 ghost use Rattle.std.specs.Prelude.{◌≡◌, ◌+◌, ◌≤◌, ◌++◌, length, take, OnOk, OnErr};
-ghost use Rattle.message_codec.specs.Streams.{frame_of};
-ghost use Rattle.clip_chunks.specs.Parts.{part, message_of};
-ghost use Rattle.clip_chunks.specs.Sending.{before_bytes, clip_frames, HoldsOne};
+ghost use Rattle.clip_chunks.specs.Sending.{before_bytes, part_frame, clip_frames, HoldsOne};
 
 use itoa::Buffer;
 use message_codec::ClipMark;
@@ -18,7 +16,7 @@ const PART_LEN: u32 = 14;
 
 /// Appends the frames of a clipboard of at most 4,194,304 bytes: a start that says how many bytes there
 /// are, the bytes in chunks of 32,768 of which the last may be shorter, and an end. Their messages hold
-/// one whole, of these bytes. After `OutOfMemory` `out` is unchanged.
+/// one whole, of these bytes. On `OutOfMemory` `out` is unchanged.
 #[tactic(auto, using(crate::proofs::OneWhole::holds_one))]
 pub fn frames_of(clip: ClipId, seq: u32, bytes: &[u8], out: &mut Octets) -> Result<(), OutOfMemory>
     requires { length bytes.now ≤ 4194304 }
@@ -56,7 +54,7 @@ fn put_part(
     out: &mut Octets,
 ) -> Result<(), OutOfMemory>
     requires { length bytes.now ≤ 32768 }
-    ensures ok { OnOk result (out.new ≡ out.old ++ frame_of (message_of (part mark clip seq bytes.now))) }
+    ensures ok { OnOk result (out.new ≡ out.old ++ part_frame mark clip seq bytes.now) }
     ensures err { OnErr result (take (length out.old) out.new ≡ out.old) }
 {
     out.extend(&header(clip, seq, mark, bytes.len() as u32))?;

@@ -4,9 +4,10 @@ pub mod Clearing
 pub mod Histories
 pub mod Tables
 pub mod Standing
-pub mod Ranging
-pub mod Releasing
+pub mod LineRanges
+pub mod ReleaseTexts
 pub mod WordsApart
 pub mod LineTexts
 pub mod Rows
 pub mod Plain
+pub mod MessageLines

@@ -1,4 +1,4 @@
--- Why a connection parts: the farewell that is queued before, whether what is queued is dropped, and the log's words.
+-- Why a connection parts: the farewell before it, whether the queue is dropped, and the log's text.
 use Rattle.std.specs.Prelude.{ℕ, Bool, true, false, List, ◌∷◌, ◌++◌, codes, Option, Some, None}
 use Rattle.std.specs.Fmt.{decimal}
 use Rattle.share_base.specs.Reasons.{reason_text}
@@ -53,5 +53,6 @@ cause_word cause.Failed = codes "failed"
 
 -- the log prints the word, and of a bad frame its place and the reason
 abbrev pub cause_text : PartCause → List ℕ
-cause_text (cause.Bad place reason) = cause_word (cause.Bad place reason) ++ 32 ∷ decimal place ++ 32 ∷ reason_text reason
+cause_text (cause.Bad place reason) =
+    cause_word (cause.Bad place reason) ++ 32 ∷ decimal place ++ 32 ∷ reason_text reason
 cause_text other = cause_word other

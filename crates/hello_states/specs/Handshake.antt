@@ -32,12 +32,14 @@ answer_by_name (Some screen) is_used = if is_used screen then Refused cause.Busy
 
 -- the version is looked at before the name
 abbrev pub hello_answer : ℕ → ℕ → Option ℕ → (ℕ → Bool) → HelloAnswer
-hello_answer major minor screen is_used = if is_admitted major minor then answer_by_name screen is_used else Refused cause.Version
+hello_answer major minor screen is_used =
+    if is_admitted major minor then answer_by_name screen is_used else Refused cause.Version
 
 -- of a connection that was accepted then; the rate is that of its keep-alive, once it is joined
 abbrev pub after_hello : HelloAnswer → (accepted rate now : ℕ) → Phase
 after_hello (Refused cause) accepted rate now = parting_for cause now
-after_hello (Admitted screen) accepted rate now = Asked (record { screen = screen; accepted = accepted; rate = rate })
+after_hello (Admitted screen) accepted rate now =
+    Asked (record { screen = screen; accepted = accepted; rate = rate })
 
 -- ---- a screen's information
 
@@ -47,14 +49,17 @@ is_span first count = nat_le 1 count && nat_le count 32767 && int_le (first +ℤ
 
 -- the shape that an information tells, where a screen can have it
 abbrev pub shape_of_info : ℤ → ℤ → ℕ → ℕ → Option Shape
-shape_of_info x y w h = if is_span x w && is_span y h then Some (record { x = x; y = y; w = pos w; h = pos h }) else None
+shape_of_info x y w h =
+    if is_span x w && is_span y h then Some (record { x = x; y = y; w = pos w; h = pos h }) else None
 
 -- a screen that was asked joins, and its keep-alive begins
 abbrev pub asked_after_info : Option Shape → ℕ → AskedScreen → Phase
 asked_after_info None now asked = parting_for cause.Size now
-asked_after_info (Some shape) now asked = Joined (record { screen = asked.screen; shape = shape; alive = keep_alive.alive_from asked.rate now })
+asked_after_info (Some shape) now asked =
+    Joined (record { screen = asked.screen; shape = shape; alive = keep_alive.alive_from asked.rate now })
 
 -- a joined screen has another shape, and was heard
 abbrev pub joined_after_info : Option Shape → ℕ → JoinedScreen → Phase
 joined_after_info None now joined = parting_for cause.Size now
-joined_after_info (Some shape) now joined = Joined (record joined { shape = shape; alive = keep_alive.after_hearing joined.alive now })
+joined_after_info (Some shape) now joined =
+    Joined (record joined { shape = shape; alive = keep_alive.after_hearing joined.alive now })

@@ -1,4 +1,4 @@
--- How far a connection has come, and what each phase keeps. Moments are in milliseconds, screens go by their numbers.
+-- How far a connection has come, and what each phase keeps. Moments are in milliseconds; a screen is its number.
 use Rattle.std.specs.Prelude.{ℕ, ◌+◌, Bool, true, false, nat_le, Option, Some, None}
 use Rattle.share_base.specs.declared.shape.Shape.{Shape}
 use Rattle.keepalive_clock.specs.declared.alive.Alive.{Alive}
@@ -6,7 +6,7 @@ use Rattle.keepalive_clock.specs.KeepAlive as keep_alive
 use Rattle.hello_states.specs.declared.deadlines.TheConstants.{HANDSHAKE_TIME, CLOSING_TIME}
 use Rattle.hello_states.specs.declared.part_cause.PartCause.{PartCause}
 
--- a screen that was asked for its information, the moment of its acceptance, and the rate that its keep-alive will have
+-- a screen that was asked for its information, and when it was accepted; its keep-alive will have that rate
 pub record AskedScreen : Type 0 where
   pub screen : ℕ
   pub accepted : ℕ

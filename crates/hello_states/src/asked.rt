@@ -55,7 +55,8 @@ impl Asked {
     pub(crate) fn new(serial: u64, screen: ScreenNo, accepted: u64, rate: u32) -> Asked
         requires screen { screen.0 < most_screens }
         requires moment { accepted ≤ last_moment }
-        ensures phase { asked_phase result ≡ in_asked (record { screen = screen.0; accepted = accepted; rate = rate }) }
+        ensures phase { asked_phase result
+            ≡ in_asked (record { screen = screen.0; accepted = accepted; rate = rate }) }
         ensures serial { result.serial ≡ serial }
     {
         Asked {
@@ -69,7 +70,8 @@ impl Asked {
     /// Takes the screen's information. The connection is joined with that shape, and its keep-alive
     /// begins; or it parts, for a shape that no screen has.
     pub fn info(self, info: &InfoFields, now: u64) -> Informed
-        ensures phase { phase_informed result ≡ asked_after_info (shape_in info.now) now self.asked }
+        ensures phase { phase_informed result
+            ≡ asked_after_info (shape_in info.now) now self.asked }
         ensures serial { serial_informed result ≡ self.serial }
     {
         let Some(shape) = info.shape() else {

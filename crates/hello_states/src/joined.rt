@@ -47,7 +47,8 @@ impl Joined {
     pub(crate) fn new(serial: u64, screen: ScreenNo, shape: Shape, alive: Alive) -> Joined
         requires screen { screen.0 < most_screens }
         requires shape { IsScreenShape shape }
-        ensures phase { joined_phase result ≡ in_joined (record { screen = screen.0; shape = shape; alive = alive }) }
+        ensures phase { joined_phase result
+            ≡ in_joined (record { screen = screen.0; shape = shape; alive = alive }) }
         ensures serial { result.serial ≡ serial }
     {
         Joined {
@@ -61,7 +62,8 @@ impl Joined {
     /// Takes a further information of the screen, which counts as heard. The connection has that shape
     /// from now on; or it parts, for a shape that no screen has.
     pub fn info(self, info: &InfoFields, now: u64) -> Informed
-        ensures phase { phase_informed result ≡ joined_after_info (shape_in info.now) now self.joined }
+        ensures phase { phase_informed result
+            ≡ joined_after_info (shape_in info.now) now self.joined }
         ensures serial { serial_informed result ≡ self.serial }
     {
         let Some(shape) = info.shape() else {

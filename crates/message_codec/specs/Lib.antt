@@ -10,7 +10,7 @@ pub mod Drafts
 pub mod Refusals
 pub mod Reasons
 pub mod Decoding
-pub mod Seen
+pub mod FieldViews
 pub mod Showing
 pub mod Streams
 pub mod Verdicts

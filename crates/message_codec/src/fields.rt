@@ -2,7 +2,7 @@
 
 ghost use Rattle.std.specs.Prelude.{◌≡◌, ◌<◌, ◌≤◌, Some, length, slice_get};
 ghost use Rattle.message_codec.specs.Table.{code_of, fields};
-ghost use Rattle.message_codec.specs.Seen.{seen};
+ghost use Rattle.message_codec.specs.FieldViews.{seen};
 
 use crate::coding::Code;
 use crate::messages::Msg;

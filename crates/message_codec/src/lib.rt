@@ -7,26 +7,26 @@
 
 mod clip_mark;
 mod coding;
-mod decoding;
+mod decoder;
 mod drafts;
-mod encoding;
+mod encoder;
 mod faults;
 mod fields;
 mod laws;
 mod messages;
 mod reading;
 mod rows;
-mod showing;
+mod show_line;
 #[cfg(test)]
 mod tests;
 
 pub use clip_mark::ClipMark;
-pub use decoding::decode;
-pub use encoding::{body_len, encode};
+pub use decoder::decode;
+pub use encoder::{body_len, encode};
 pub use faults::{BadBody, DecodeFault};
 pub use laws::{
     body_is_judged, each_has_a_verdict, inbox_has_the_verdict, one_message, one_refusal,
     one_verdict, refused_spells_none, spelled_is_decoded, spelled_or_refused,
 };
 pub use messages::{End, Msg};
-pub use showing::show;
+pub use show_line::show;

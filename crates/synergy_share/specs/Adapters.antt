@@ -1,4 +1,4 @@
--- What the adapters answer, where the reader or writer below them says which bytes it holds.
+-- What an adapter answers, where the reader or writer below it says which bytes it holds.
 use Rattle.std.specs.Prelude.{ℕ, List, take, Option}
 use Rattle.std.specs.Io.KnownBytes.{Keeps, Appends, Consumes, IsAtEnd}
 use Rattle.share_base.specs.declared.source.SourceAnswer.{SourceAnswer}
@@ -6,13 +6,13 @@ use Rattle.share_base.specs.declared.source.SourceAnswer.TheVariants.{Got, End, 
 use Rattle.share_base.specs.declared.sink.SinkAnswer.{SinkAnswer}
 use Rattle.share_base.specs.declared.sink.SinkAnswer.TheVariants.{Took, Failed as WriteFailed}
 
--- the next bytes of the reader came; the end is answered only where it holds none, and a failed read loses none
-abbrev pub ReadsFrom : SourceAnswer → List ℕ → Option (List ℕ) → Option (List ℕ) → Type 0
-ReadsFrom (Got n) buf old new = Consumes old new (take n buf)
-ReadsFrom End buf old new = IsAtEnd old × Keeps old new
-ReadsFrom ReadFailed buf old new = Keeps old new
+-- the reader gave its next bytes; it answers the end only if it holds none, and loses none by a failure
+abbrev pub ReadsFrom : {R : Type 0} → (R → Option (List ℕ)) → R → R → SourceAnswer → List ℕ → Type 0
+ReadsFrom held old new (Got n) buf = Consumes (held old) (held new) (take n buf)
+ReadsFrom held old new End buf = IsAtEnd (held old) × Keeps (held old) (held new)
+ReadsFrom held old new ReadFailed buf = Keeps (held old) (held new)
 
 -- the writer took the bytes that the answer counts, and none at a failure
-abbrev pub WritesTo : SinkAnswer → List ℕ → Option (List ℕ) → Option (List ℕ) → Type 0
-WritesTo (Took n) bytes old new = Appends old new (take n bytes)
-WritesTo WriteFailed bytes old new = Keeps old new
+abbrev pub WritesTo : {W : Type 0} → (W → Option (List ℕ)) → W → W → SinkAnswer → List ℕ → Type 0
+WritesTo held old new (Took n) bytes = Appends (held old) (held new) (take n bytes)
+WritesTo held old new WriteFailed bytes = Keeps (held old) (held new)

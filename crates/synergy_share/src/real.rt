@@ -47,7 +47,7 @@ impl<R: Read + Drop> Source for StdSource<R> {
         requires { 0 < length buf.old }
         ensures fits { FitsRead result (length buf.old) }
         ensures counts { ReadCounts result self.old.faults self.new.faults }
-        ensures reads { ReadsFrom result buf.new (R.remaining self.old.reader) (R.remaining self.new.reader) }
+        ensures known { ReadsFrom R.remaining self.old.reader self.new.reader result buf.new }
     {
         for _ in 0..u64::MAX {
             match self.reader.read(buf) {
@@ -87,7 +87,7 @@ impl<W: Write + Drop> Sink for StdSink<W> {
     fn write(&mut self, bytes: &[u8]) -> SinkAnswer
         ensures fits { FitsWrite result (length bytes.now) }
         ensures counts { WriteCounts result self.old.faults self.new.faults }
-        ensures writes { WritesTo result bytes.now (W.contents self.old.writer) (W.contents self.new.writer) }
+        ensures known { WritesTo W.contents self.old.writer self.new.writer result bytes.now }
     {
         for _ in 0..u64::MAX {
             match self.writer.write(bytes) {

@@ -6,14 +6,14 @@
 //! nothing of where bytes come from.
 #![tactic(auto)]
 
+mod frame;
 mod framer;
 mod laws;
 mod limits;
-mod putting;
 #[cfg(test)]
 mod tests;
 
+pub use frame::put_frame;
 pub use framer::{FrameStep, Framer};
 pub use laws::{holds_little, however_cut, one_framing};
 pub use limits::BODY_LIMIT;
-pub use putting::put_frame;

@@ -1,5 +1,5 @@
-use Rattle.clip_chunks.proofs.Full.{is_cut}
+use Rattle.clip_chunks.proofs.Full.{is_cut as law}
 use Rattle.clip_chunks.proofs.laws.chunks_are_full.Goals as goal
 
 pub returns : goal.returns
-returns c = is_cut
+returns c = law

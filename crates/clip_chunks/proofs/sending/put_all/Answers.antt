@@ -1,10 +1,10 @@
-use Rattle.std.proofs.Common.{ℕ, List, [], ◌++◌, length, min, ◌∙◌, ap}
+use Rattle.std.proofs.Common.{ℕ, List, ◌++◌, length, min, ◌∙◌, ap}
 use Rattle.std.specs.Slice.Iter.{chunks_rest}
 use Rattle.std.proofs.lemmas.Result.{on_ok_weaker}
 use Rattle.message_codec.specs.declared.clip_mark.ClipMark.TheVariants as mark
-use Rattle.clip_chunks.specs.Sending.{chunks_of}
+use Rattle.clip_chunks.specs.Sending.{part_frame, chunks_of}
 use Rattle.clip_chunks.proofs.PartFrames.{begins_more}
-use Rattle.clip_chunks.proofs.ClipFrames.{part_frame, chunk_frames, chunk_put, all_put}
+use Rattle.clip_chunks.proofs.ClipFrames.{chunk_frames, chunk_put, all_put}
 use Rattle.clip_chunks.proofs.sending.put_all.Goals as goal
 
 pub loop-chunk-preserved : goal.loop-chunk-preserved

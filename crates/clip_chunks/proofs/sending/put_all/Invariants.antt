@@ -1,4 +1,4 @@
-use Rattle.std.proofs.Common.{◌≡◌, ◌≤◌, ◌++◌, length, take}
+use Rattle.std.proofs.Common.{◌≡◌, ◌++◌, length, take}
 use Rattle.std.specs.Slice.Iter.{chunks_rest, chunks_size}
 use Rattle.clip_chunks.specs.Sending.{full_chunk, chunks_of}
 use Rattle.clip_chunks.proofs.ClipFrames.{chunk_frames}

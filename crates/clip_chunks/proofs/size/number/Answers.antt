@@ -1,5 +1,5 @@
-use Rattle.std.proofs.Common.{◌≡◌, ℕ, ◌<◌, length, sym, ◌∙◌, ap, arith}
-use Rattle.clip_chunks.proofs.Sizes.{OneMore, one_more}
+use Rattle.std.proofs.Common.{arith}
+use Rattle.clip_chunks.proofs.Sizes.{one_more}
 use Rattle.clip_chunks.proofs.size.number.Goals as goal
 
 pub overflow_mul-number : goal.overflow_mul-number

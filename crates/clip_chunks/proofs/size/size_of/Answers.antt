@@ -1,8 +1,6 @@
-use Rattle.std.proofs.Common.{rules, ◌≡◌, ◌≤◌, ◌&&◌, Bool, length, true, Option, Some, None, sym, ◌∙◌, ap, arith, ℕ}
-use Rattle.std.specs.Prelude.{nat_le, if◌then◌else◌}
+use Rattle.std.proofs.Common.{rules, ◌≡◌, true, Some, sym, ◌∙◌, ap}
 use Rattle.std.specs.List.{list_all}
 use Rattle.std.specs.Char.{is_ascii_digit}
-use Rattle.std.proofs.lemmas.Bool.{le-leb}
 use Rattle.clip_chunks.proofs.Sizes.{size_of-some}
 use Rattle.clip_chunks.proofs.size.size_of.Goals as goal
 

@@ -1,7 +1,7 @@
 use Rattle.std.proofs.Common.{◌≡◌, ap, arith, add-one}
 use Rattle.std.proofs.lemmas.Grind.{common_steps}
 use Rattle.held_inputs.specs.Line.{room_of}
-use Rattle.held_inputs.proofs.Ranging.{fit-take}
+use Rattle.held_inputs.proofs.LineRanges.{fit-take}
 use Rattle.held_inputs.proofs.held.put_key_ups.Goals as goal
 
 pub loop-key-preserved : goal.loop-key-preserved

@@ -4,8 +4,8 @@ use Rattle.std.proofs.lemmas.Int.{to_z-of_z}
 use Rattle.held_inputs.specs.declared.line.Line.TheVariants.{MoveTo, MoveBy, Wheel}
 use Rattle.held_inputs.proofs.Standing.{moved_to, moved_by, turned, saved}
 use Rattle.held_inputs.specs.Screen.{saver_line}
-use Rattle.held_inputs.proofs.Ranging.{fit-saver}
-use Rattle.held_inputs.proofs.Releasing.{tells-prints}
+use Rattle.held_inputs.proofs.LineRanges.{fit-saver}
+use Rattle.held_inputs.proofs.ReleaseTexts.{tells-prints}
 use Rattle.held_inputs.proofs.injector.Injector.apply_to.Goals as goal
 
 pub returns-in-Enter-clause-prints : goal.returns-in-Enter-clause-prints

@@ -1,4 +1,4 @@
-use Rattle.held_inputs.proofs.Releasing.{all_up-nothing_down}
+use Rattle.held_inputs.proofs.ReleaseTexts.{all_up-nothing_down}
 use Rattle.held_inputs.proofs.injector.Injector.is_clear.Goals as goal
 
 pub returns : goal.returns

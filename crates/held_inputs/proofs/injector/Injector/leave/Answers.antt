@@ -1,5 +1,5 @@
 use Rattle.std.proofs.Common.{refl}
-use Rattle.held_inputs.proofs.Releasing.{released-prints, leave-prints}
+use Rattle.held_inputs.proofs.ReleaseTexts.{released-prints, leave-prints}
 use Rattle.held_inputs.proofs.injector.Injector.leave.Goals as goal
 
 pub returns-clause-prints : goal.returns-clause-prints

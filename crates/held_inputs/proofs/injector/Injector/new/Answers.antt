@@ -1,4 +1,4 @@
-use Rattle.held_inputs.proofs.Releasing.{fresh}
+use Rattle.held_inputs.proofs.ReleaseTexts.{fresh}
 use Rattle.held_inputs.proofs.injector.Injector.new.Goals as goal
 
 pub returns : goal.returns

@@ -1,5 +1,5 @@
 use Rattle.std.proofs.Common.{refl}
-use Rattle.held_inputs.proofs.Releasing.{released-prints}
+use Rattle.held_inputs.proofs.ReleaseTexts.{released-prints}
 use Rattle.held_inputs.proofs.injector.Injector.release_all.Goals as goal
 
 pub returns-clause-prints : goal.returns-clause-prints
