@@ -2,6 +2,7 @@
 use Rattle.std.specs.Prelude.{◌≡◌, refl, ℕ, ◌<◌, Bool, true, false, not, nat_le, ◌||◌, cond, List, [], ◌∷◌, filter}
 use Rattle.std.specs.List.{list_all, list_any}
 use Rattle.std.proofs.Common.{arith, sym, subst, inl, inr}
+use Rattle.std.proofs.lemmas.Bool.{and_parts}
 use Rattle.std.proofs.lemmas.Bool.Decides.{nat_tests}
 use Rattle.message_codec.specs.declared.messages.Msg.{Msg}
 use Rattle.message_codec.specs.declared.messages.Msg.TheVariants as msg
@@ -12,7 +13,6 @@ use Rattle.machine.specs.Combining.{when}
 use Rattle.machine.specs.Queues.{entries_for}
 use Rattle.machine.specs.Routing.{route, entry}
 use Rattle.machine.specs.Switching.{entering, at_screen, tell_leaving}
-use Rattle.machine.proofs.Rules.{both}
 use Rattle.machine.proofs.Live.{lives_as, IsLive, IsKnown, IsTame}
 use Rattle.machine.proofs.Invariant.{View, On, IsInvariant}
 use Rattle.machine.proofs.AnyButton.{any, any_origin, rules-any, lines-any}
@@ -39,11 +39,11 @@ BelowLatest latest v = AreBelow latest v.active v.connections v.routed
 live_upto : (latest n : ℕ) (cs : List Connection) → list_all (connection_upto latest) cs ≡ true → list_any (lives_as n) cs ≡ true → nat_le n latest ≡ true
 live_upto latest n [] h k = grind (arith, k)
 live_upto latest n (c ∷ cs) h k =
-    let b = both (connection_upto latest c) (list_all (connection_upto latest) cs) h in
+    let b = and_parts (connection_upto latest c) (list_all (connection_upto latest) cs) h in
     by (lives_as n c) refl k (live_upto latest n cs b.1) b.0
   where
     by : (t : Bool) → lives_as n c ≡ t → (t || list_any (lives_as n) cs) ≡ true → (list_any (lives_as n) cs ≡ true → nat_le n latest ≡ true) → connection_upto latest c ≡ true → nat_le n latest ≡ true
-    by true e k later upto = let here = both (has_serial n c) (is_live c) e in let is : c.serial ≡ n = grind (arith, here.0) in subst (λ m. nat_le m latest ≡ true) is upto
+    by true e k later upto = let here = and_parts (has_serial n c) (is_live c) e in let is : c.serial ≡ n = grind (arith, here.0) in subst (λ m. nat_le m latest ≡ true) is upto
     by false e k later upto = later k
 
 target_upto : (latest : ℕ) (s : State) (t : Target) → IsLive s.connections t → On (BelowLatest latest) s → is_upto latest t ≡ true
@@ -62,7 +62,7 @@ one latest o t m s u h = record { active = h.active; connections = h.connections
 changed_upto : (latest serial : ℕ) (f : Connection → Connection) → IsTame f → (cs : List Connection) → list_all (connection_upto latest) cs ≡ true → list_all (connection_upto latest) (changed serial f cs) ≡ true
 changed_upto latest serial f tame [] h = refl
 changed_upto latest serial f tame (c ∷ cs) h =
-    let b = both (connection_upto latest c) (list_all (connection_upto latest) cs) h in
+    let b = and_parts (connection_upto latest c) (list_all (connection_upto latest) cs) h in
     let here = at (has_serial serial c) b.0 in
     let rest = changed_upto latest serial f tame cs b.1 in
     grind (arith, here, rest)
@@ -74,7 +74,7 @@ changed_upto latest serial f tame (c ∷ cs) h =
 removed_upto : (latest : ℕ) (test : Connection → Bool) (cs : List Connection) → list_all (connection_upto latest) cs ≡ true → list_all (connection_upto latest) (filter test cs) ≡ true
 removed_upto latest test [] h = refl
 removed_upto latest test (c ∷ cs) h =
-    let b = both (connection_upto latest c) (list_all (connection_upto latest) cs) h in
+    let b = and_parts (connection_upto latest c) (list_all (connection_upto latest) cs) h in
     by (test c) b.0 (removed_upto latest test cs b.1)
   where
     by : (t : Bool) → connection_upto latest c ≡ true → list_all (connection_upto latest) (filter test cs) ≡ true → list_all (connection_upto latest) (cond t (c ∷ filter test cs) (filter test cs)) ≡ true
@@ -103,7 +103,7 @@ invariant latest = record {
 none_for : (latest n : ℕ) (routed : List Entry) → latest < n → list_all (entry_upto latest) routed ≡ true → entries_for (Client n) routed ≡ []
 none_for latest n [] a h = refl
 none_for latest n (e ∷ routed) a h =
-    let b = both (entry_upto latest e) (list_all (entry_upto latest) routed) h in
+    let b = and_parts (entry_upto latest e) (list_all (entry_upto latest) routed) h in
     by (same_target e.target (Client n)) (other e.target b.0) (none_for latest n routed a b.1)
   where
     other : (t : Target) → is_upto latest t ≡ true → same_target t (Client n) ≡ false

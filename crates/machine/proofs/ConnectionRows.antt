@@ -9,7 +9,9 @@ use Rattle.machine.specs.Queues.{queue}
 use Rattle.std.specs.Fmt as std_fmt
 use Rattle.share_base.specs.Names.{same_name}
 use Rattle.share_base.specs.Screens.{has}
+use Rattle.message_codec.specs.BodyVerdicts.{body_verdict}
 use Rattle.message_codec.specs.Codes.{code_at}
+use Rattle.message_codec.specs.Messages.{the_signed, the_number, the_list, clip_of, mark_of, field_at, built}
 use Rattle.message_codec.specs.Reading.{read_fields, text_at}
 use Rattle.modifier_map.specs.Presses.{mods_below}
 use Rattle.option_table.specs.Table.{row_of}
@@ -18,7 +20,6 @@ use Rattle.hotkey_rules.specs.Triggers.{rule_for}
 use Rattle.held_inputs.specs.Down.{last_where, down, is_button_down, reach, keys_below, buttons_below, held_keys, held_buttons, releases}
 use Rattle.held_inputs.specs.Screen.{meant_id, meant_mask}
 use Rattle.screen_config.specs.Configurations.{screen_of, with_own, with_global}
-use Rattle.machine.specs.Decoding.{decoded}
 use Rattle.machine.proofs.RowParts.{two_desks, hello_of, hello, info_of, info, join, state_of, log_of, log_after, joined_with, joined, crossed, bytes_apart}
 
 record Rows : Type 0 where
@@ -52,5 +53,5 @@ record Rows : Type 0 where
   dies_sooner : log_after (with_global two_desks option.Heartbeat 1000) [] (Moment 999 ∷ Moment 1000 ∷ Moment 2000 ∷ Moment 2999 ∷ Moment 3000 ∷ []) ≡ joined_with (codes "2 1212240468 1000") (codes "send 1 CALV\nsend 1 CALV\npart 1 dead\n")
 
 rows : Rows
-unfolding decoded code_at read_fields text_at row_of screen_of same_name sent_of std_fmt.digits mods_below rule_for last_where down is_button_down reach keys_below buttons_below held_keys held_buttons releases meant_id meant_mask has with_own
+unfolding body_verdict the_signed the_number the_list clip_of mark_of field_at built code_at read_fields text_at row_of screen_of same_name sent_of std_fmt.digits mods_below rule_for last_where down is_button_down reach keys_below buttons_below held_keys held_buttons releases meant_id meant_mask has with_own
 rows = record { joins = refl; joins_by_bytes = refl; queued = refl; queued_bytes = refl; too_long = refl; unknown_code = refl; first_too_long = refl; other_version = refl; unknown_name = refl; busy_name = refl; no_width = refl; fails = refl; dies = refl; dies_sooner = refl }

@@ -2,11 +2,11 @@
 use Rattle.std.specs.Prelude.{◌≡◌, refl, ℕ, ◌+◌, ◌<◌, ◌≤◌, Bool, true, false, not, ◌||◌, cond, List, [], ◌∷◌, length, filter}
 use Rattle.std.specs.List.{list_any}
 use Rattle.std.proofs.Common.{arith}
+use Rattle.std.proofs.lemmas.Bool.{and_parts}
 use Rattle.hello_states.specs.declared.part_cause.PartCause.{PartCause}
 use Rattle.machine.specs.Connections.{Connection, has_serial, is_live, changed}
 use Rattle.machine.specs.Combining.{when}
 use Rattle.machine.specs.Partings.{parted}
-use Rattle.machine.proofs.Rules.{both}
 use Rattle.machine.proofs.Live.{lives_as, IsTame}
 use Rattle.machine.proofs.Invariant.{View, IsInvariant}
 use Rattle.machine.proofs.AnyButton.{any, any_origin, rules-any, lines-any}
@@ -74,5 +74,5 @@ parted-fewer serial cause now (c ∷ cs) h =
     by (lives_as serial c) refl h (changed-fewer serial (parted cause now) (λ d. (refl, λ e. grind (arith, e))) cs) (parted-fewer serial cause now cs) (weight_fewer (parted cause now) (λ d. (refl, λ e. grind (arith, e))) (has_serial serial c) c)
   where
     by : (b : Bool) → lives_as serial c ≡ b → (b || list_any (lives_as serial) cs) ≡ true → live_count (changed serial (parted cause now) cs) ≤ live_count cs → (list_any (lives_as serial) cs ≡ true → live_count (changed serial (parted cause now) cs) < live_count cs) → cond (is_live (when (has_serial serial c) (parted cause now) c)) 1 0 ≤ cond (is_live c) 1 0 → cond (is_live (when (has_serial serial c) (parted cause now) c)) 1 0 + live_count (changed serial (parted cause now) cs) < cond (is_live c) 1 0 + live_count cs
-    by true e k less later here = let parts = both (has_serial serial c) (is_live c) e in rw (parts.0, parts.1) (omega arith)
+    by true e k less later here = let parts = and_parts (has_serial serial c) (is_live c) e in rw (parts.0, parts.1) (omega arith)
     by false e k less later here = let rest = later k in omega arith

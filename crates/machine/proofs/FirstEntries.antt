@@ -3,6 +3,7 @@ use Rattle.std.specs.Prelude.{◌≡◌, refl, ℕ, ◌+◌, ◌-◌, ◌<◌, n
 use Rattle.std.specs.List.{list_any, list_all}
 use Rattle.std.specs.Option.{option_and_then}
 use Rattle.std.proofs.Common.{arith, sym, ap, ◌∙◌, subst}
+use Rattle.std.proofs.lemmas.Bool.{and_parts, or_parts}
 use Rattle.std.proofs.lemmas.Bool.Decides.{nat_tests}
 use Rattle.std.proofs.lemmas.List.Folds.{list_any-append}
 use Rattle.message_codec.specs.declared.messages.Msg.TheVariants as msg
@@ -17,11 +18,11 @@ use Rattle.machine.specs.Queues.{most_untaken, size, fits, fitting, entries_for,
 use Rattle.machine.specs.Routing.{entry}
 use Rattle.machine.specs.Partings.{lose, parted, marked, part}
 use Rattle.machine.specs.Acceptance.{opened, greet, accept, most_open}
-use Rattle.machine.proofs.Rules.{choose-keeps, both}
+use Rattle.machine.proofs.Rules.{choose-keeps}
 use Rattle.machine.proofs.Targets.{added_if, entries-more}
 use Rattle.machine.proofs.Invariant.{On}
 use Rattle.machine.proofs.BelowLatest.{BelowLatest, connection_upto, untold}
-use Rattle.machine.proofs.NoneSlow.{NoneSlow, neither}
+use Rattle.machine.proofs.NoneSlow.{NoneSlow}
 
 -- ---- who is found
 
@@ -35,7 +36,7 @@ finds_new latest serial c [] a e h = by (has_serial serial c) e
     by true k = refl
     by false k = grind (arith, k)
 finds_new latest serial c (d ∷ cs) a e h =
-    let parts = both (connection_upto latest d) (list_all (connection_upto latest) cs) h in
+    let parts = and_parts (connection_upto latest d) (list_all (connection_upto latest) cs) h in
     by (has_serial serial d) (other_serial latest serial d a parts.0) (finds_new latest serial c cs a e parts.1)
   where
     by : (b : Bool) → b ≡ false → with_serial serial (cs ++ c ∷ []) ≡ Some c → cond b (Some d) (with_serial serial (cs ++ c ∷ [])) ≡ Some c
@@ -51,8 +52,8 @@ parted_none routed latest serial now c [] a e h k = by (has_serial serial c) e
     by true k = refl
     by false k = grind (arith, k)
 parted_none routed latest serial now c (d ∷ cs) a e h k =
-    let parts = both (connection_upto latest d) (list_all (connection_upto latest) cs) h in
-    let none = neither (is_live d && is_slow routed d.serial) (list_any (λ d. is_live d && is_slow routed d.serial) cs) k in
+    let parts = and_parts (connection_upto latest d) (list_all (connection_upto latest) cs) h in
+    let none = or_parts (is_live d && is_slow routed d.serial) (list_any (λ d. is_live d && is_slow routed d.serial) cs) k in
     by (has_serial serial d) (other_serial latest serial d a parts.0) none.0 (parted_none routed latest serial now c cs a e parts.1 none.1)
   where
     by : (b : Bool) → b ≡ false → (is_live d && is_slow routed d.serial) ≡ false → list_any (λ d. is_live d && is_slow routed d.serial) (changed serial (parted cause.Full now) (cs ++ c ∷ [])) ≡ false → ((is_live (when b (parted cause.Full now) d) && is_slow routed (when b (parted cause.Full now) d).serial) || list_any (λ d. is_live d && is_slow routed d.serial) (changed serial (parted cause.Full now) (cs ++ c ∷ []))) ≡ false
@@ -75,8 +76,8 @@ others_same routed e n d = ap (λ es. not (length (fitting 0 es) == length es)) 
 greeted_others : (routed : List Entry) (e : Entry) (latest serial : ℕ) (cs : List Connection) → latest < serial → e.target ≡ Client serial → list_all (connection_upto latest) cs ≡ true → list_any (λ d. is_live d && is_slow routed d.serial) cs ≡ false → list_any (λ d. is_live d && is_slow (routed ++ e ∷ []) d.serial) cs ≡ false
 greeted_others routed e latest serial [] a t h k = refl
 greeted_others routed e latest serial (d ∷ cs) a t h k =
-    let parts = both (connection_upto latest d) (list_all (connection_upto latest) cs) h in
-    let none = neither (is_live d && is_slow routed d.serial) (list_any (λ d. is_live d && is_slow routed d.serial) cs) k in
+    let parts = and_parts (connection_upto latest d) (list_all (connection_upto latest) cs) h in
+    let none = or_parts (is_live d && is_slow routed d.serial) (list_any (λ d. is_live d && is_slow routed d.serial) cs) k in
     let apart : same_target (Client serial) (Client d.serial) ≡ false = grind (arith, nat_tests, a, parts.0) in
     let same : is_slow (routed ++ e ∷ []) d.serial ≡ is_slow routed d.serial = others_same routed e d.serial (ap (λ u. same_target u (Client d.serial)) t ∙ apart) in
     let here : (is_live d && is_slow (routed ++ e ∷ []) d.serial) ≡ false = ap (λ b. is_live d && b) same ∙ none.0 in

@@ -3,6 +3,7 @@ use Rattle.std.specs.Prelude.{◌≡◌, refl, ℕ, ◌<◌, length, Bool, true,
 use Rattle.std.specs.List.{list_all}
 use Rattle.std.specs.Option.{option_map}
 use Rattle.std.proofs.Common.{arith, sym, ap, ◌∙◌, subst, append_assoc, ltb-true}
+use Rattle.std.proofs.lemmas.Bool.{and_parts}
 use Rattle.std.proofs.lemmas.List.{append-nil, map-append}
 use Rattle.share_base.specs.declared.numbers.KeyId.{KeyId}
 use Rattle.message_codec.specs.declared.messages.Msg.{Msg}
@@ -16,7 +17,6 @@ use Rattle.held_inputs.specs.Screen.{Screen, Call, Applies, screen, screen_from,
 use Rattle.machine.specs.Routing.{screen_after}
 use Rattle.machine.specs.KeyButtons.{is_key_button, pressed_by_message}
 use Rattle.machine.specs.Holding.{Input, Key, Mouse, holds, names, is_leaving, is_down, left_down}
-use Rattle.machine.proofs.Rules.{both}
 use Rattle.machine.proofs.LeftDown.{left-more}
 use Rattle.machine.proofs.HeldLines.{MeansAll, key-more, mouse-more}
 use Rattle.machine.proofs.Room.{AtKeyButtons, has-room}
@@ -94,7 +94,7 @@ linked_more ms m s h = record {
 
 linked_all : (ms more : List Msg) → list_all (pressed_by_message is_key_button) more ≡ true → IsLinked ms → IsLinked (ms ++ more)
 linked_all ms [] s h = subst IsLinked (sym (append-nil ms)) h
-linked_all ms (m ∷ more) s h = let b = both (pressed_by_message is_key_button m) (list_all (pressed_by_message is_key_button) more) s in subst IsLinked (append_assoc ms (m ∷ []) more) (linked_all (ms ++ m ∷ []) more b.1 (linked_more ms m b.0 h))
+linked_all ms (m ∷ more) s h = let b = and_parts (pressed_by_message is_key_button m) (list_all (pressed_by_message is_key_button) more) s in subst IsLinked (append_assoc ms (m ∷ []) more) (linked_all (ms ++ m ∷ []) more b.1 (linked_more ms m b.0 h))
 
 linked : (ms : List Msg) → list_all (pressed_by_message is_key_button) ms ≡ true → IsLinked ms
 linked ms s = linked_all [] ms s linked_none

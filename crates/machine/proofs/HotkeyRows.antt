@@ -12,7 +12,9 @@ use Rattle.machine.specs.Happenings.{Got, Moment}
 use Rattle.std.specs.Fmt as std_fmt
 use Rattle.share_base.specs.Names.{same_name}
 use Rattle.share_base.specs.Screens.{has}
+use Rattle.message_codec.specs.BodyVerdicts.{body_verdict}
 use Rattle.message_codec.specs.Codes.{code_at}
+use Rattle.message_codec.specs.Messages.{the_signed, the_number, the_list, clip_of, mark_of, field_at, built}
 use Rattle.message_codec.specs.Reading.{read_fields, text_at}
 use Rattle.modifier_map.specs.Presses.{mods_below}
 use Rattle.option_table.specs.Table.{row_of}
@@ -21,7 +23,6 @@ use Rattle.hotkey_rules.specs.Triggers.{rule_for}
 use Rattle.held_inputs.specs.Down.{last_where, down, is_button_down, reach, keys_below, buttons_below, held_keys, held_buttons, releases}
 use Rattle.held_inputs.specs.Screen.{meant_id, meant_mask}
 use Rattle.screen_config.specs.Configurations.{screen_of, with_own, with_global}
-use Rattle.machine.specs.Decoding.{decoded}
 use Rattle.machine.proofs.RowParts.{two_desks, with_key, log_after, joined_with, joined, crossed}
 
 record Rows : Type 0 where
@@ -47,5 +48,5 @@ record Rows : Type 0 where
   shares_none : log_after (with_global two_desks option.ClipboardSharing 0) (Copy Clipboard (codes "abc") ∷ Motion (pos 960) (pos 0) ∷ []) (Moment 0 ∷ []) ≡ joined_with (codes "2 1129074771 0") (codes "local leave\nsend 1 CINN 0 384 1 0\n")
 
 rows : Rows
-unfolding decoded code_at read_fields text_at row_of screen_of same_name sent_of std_fmt.digits mods_below rule_for last_where down is_button_down reach keys_below buttons_below held_keys held_buttons releases meant_id meant_mask has with_own
+unfolding body_verdict the_signed the_number the_list clip_of mark_of field_at built code_at read_fields text_at row_of screen_of same_name sent_of std_fmt.digits mods_below rule_for last_where down is_button_down reach keys_below buttons_below held_keys held_buttons releases meant_id meant_mask has with_own
 rows = record { switches = refl; lock_blocks = refl; lock_is_lifted = refl; strikes = refl; saver = refl; moves_by = refl; own_option = refl; copies = refl; grabs = refl; shares_none = refl }

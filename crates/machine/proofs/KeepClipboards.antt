@@ -2,6 +2,7 @@
 use Rattle.std.specs.Prelude.{◌≡◌, refl, ℕ, Bool, true, not, ◌&&◌, List, [], ◌∷◌, ◌++◌, map}
 use Rattle.std.specs.List.{list_all}
 use Rattle.std.proofs.Common.{inl, inr}
+use Rattle.std.proofs.lemmas.Bool.{and_parts}
 use Rattle.share_base.specs.declared.clip_id.ClipId.{ClipId}
 use Rattle.share_base.specs.declared.clip_id.ClipId.TheVariants.{Clipboard, Selection}
 use Rattle.message_codec.specs.declared.messages.Msg.{Msg}
@@ -16,7 +17,7 @@ use Rattle.machine.specs.Combining.{unchanged}
 use Rattle.machine.specs.Screens.{screen_of, joined_screens, joined_clients}
 use Rattle.machine.specs.Routing.{route, route_all, route_each}
 use Rattle.machine.specs.Clipboards.{clip, set_clip, is_sharing, clip_limit, give, refresh, refresh_both, become_known, publish, copy, all_but, take_over, grab, whole}
-use Rattle.machine.proofs.Rules.{when-keeps, for_some-keeps, both}
+use Rattle.machine.proofs.Rules.{when-keeps, for_some-keeps}
 use Rattle.machine.proofs.MessageKinds.{is_plain}
 use Rattle.machine.proofs.Live.{IsKnown, AllKnown, joined-known, fewer-known}
 use Rattle.machine.proofs.Invariant.{View, On, IsInvariant}
@@ -27,7 +28,7 @@ route_all-keeps i o a (t ∷ ts) m p s k h = route_all-keeps i o a ts m p (route
 
 pub route_each-keeps : {key : ℕ → Bool} {allowed : Origin → Bool} {P : View → Type 0} (i : IsInvariant key allowed P) (o : Origin) → allowed o ≡ true → (t : Target) (ms : List Msg) → list_all is_plain ms ≡ true → (s : State) → IsKnown s t → On P s → On P (route_each o t ms s)
 route_each-keeps i o a t [] p s k h = h
-route_each-keeps i o a t (m ∷ ms) p s k h = let b = both (is_plain m) (list_all is_plain ms) p in route_each-keeps i o a t ms b.1 (route o t m s) k (i.plain o a t m b.0 s k h)
+route_each-keeps i o a t (m ∷ ms) p s k h = let b = and_parts (is_plain m) (list_all is_plain ms) p in route_each-keeps i o a t ms b.1 (route o t m s) k (i.plain o a t m b.0 s k h)
 
 end_plain : (id : ClipId) (cs : List (List ℕ)) → list_all is_plain (map message_of (map (part mark.Chunk id 0) cs ++ part mark.End id 0 [] ∷ [])) ≡ true
 end_plain id [] = refl

@@ -3,6 +3,7 @@ use Rattle.std.specs.Prelude.{◌≡◌, refl, ℕ, zero, suc, ℤ, Bool, true, 
 use Rattle.std.specs.List.{list_all}
 use Rattle.std.specs.Option.{option_map}
 use Rattle.std.proofs.Common.{arith, subst, inl}
+use Rattle.std.proofs.lemmas.Bool.{and_parts}
 use Rattle.share_base.specs.declared.shape.Side.{Side}
 use Rattle.share_base.specs.declared.numbers.RuleNo.{RuleNo}
 use Rattle.screen_links.specs.declared.link.Landing.{Landing}
@@ -29,7 +30,7 @@ use Rattle.machine.specs.Routes.{One, moves_by, key_rule, button_rule, taking, t
 use Rattle.machine.specs.Events.{holding, go, gate_hears, moved, move, move_by, motion, event}
 use Rattle.machine.specs.KeyButtons.{pressed_by_message, pressed_by_action, pressed_by_rule}
 use Rattle.machine.proofs.MessageKinds.{is_plain, is_input}
-use Rattle.machine.proofs.Rules.{when-keeps-if, choose-keeps, for_some-keeps, for_passing-keeps, both}
+use Rattle.machine.proofs.Rules.{when-keeps-if, choose-keeps, for_some-keeps, for_passing-keeps}
 use Rattle.machine.proofs.Live.{IsLive, target-live}
 use Rattle.machine.proofs.Invariant.{View, On, IsInvariant}
 use Rattle.machine.proofs.KeepPartings.{switch-keeps}
@@ -96,22 +97,22 @@ motion-keeps {P = P} i number a dx dy s h = choose-keeps (On P) (moves_by s) (mo
 
 rule_passes : (key : ℕ → Bool) (rules : List Rule) → list_all (pressed_by_rule key) rules ≡ true → (n : ℕ) (rule : Rule) → slice_get rules n ≡ Some rule → pressed_by_rule key rule ≡ true
 rule_passes key [] h n rule e = grind (arith, e)
-rule_passes key (r ∷ rules) h zero rule e = let is : r ≡ rule = grind (arith, e) in subst (λ x. pressed_by_rule key x ≡ true) is (both (pressed_by_rule key r) (list_all (pressed_by_rule key) rules) h).0
-rule_passes key (r ∷ rules) h (suc n) rule e = rule_passes key rules (both (pressed_by_rule key r) (list_all (pressed_by_rule key) rules) h).1 n rule e
+rule_passes key (r ∷ rules) h zero rule e = let is : r ≡ rule = grind (arith, e) in subst (λ x. pressed_by_rule key x ≡ true) is (and_parts (pressed_by_rule key r) (list_all (pressed_by_rule key) rules) h).0
+rule_passes key (r ∷ rules) h (suc n) rule e = rule_passes key rules (and_parts (pressed_by_rule key r) (list_all (pressed_by_rule key) rules) h).1 n rule e
 
 pub press-passes : (key : ℕ → Bool) (rules : List Rule) → list_all (pressed_by_rule key) rules ≡ true → (r : RuleNo) → list_all (pressed_by_action key) (unwrap_or (press_of rules r) []) ≡ true
 press-passes key rules h r = by (slice_get rules r.0) refl
   where
     by : (o : Option Rule) → slice_get rules r.0 ≡ o → list_all (pressed_by_action key) (unwrap_or (option_map (λ (rule : Rule). rule.press) o) []) ≡ true
     by None e = refl
-    by (Some rule) e = (both (list_all (pressed_by_action key) rule.press) (list_all (pressed_by_action key) rule.release) (rule_passes key rules h r.0 rule e)).0
+    by (Some rule) e = (and_parts (list_all (pressed_by_action key) rule.press) (list_all (pressed_by_action key) rule.release) (rule_passes key rules h r.0 rule e)).0
 
 pub release-passes : (key : ℕ → Bool) (rules : List Rule) → list_all (pressed_by_rule key) rules ≡ true → (r : RuleNo) → list_all (pressed_by_action key) (unwrap_or (release_of rules r) []) ≡ true
 release-passes key rules h r = by (slice_get rules r.0) refl
   where
     by : (o : Option Rule) → slice_get rules r.0 ≡ o → list_all (pressed_by_action key) (unwrap_or (option_map (λ (rule : Rule). rule.release) o) []) ≡ true
     by None e = refl
-    by (Some rule) e = (both (list_all (pressed_by_action key) rule.press) (list_all (pressed_by_action key) rule.release) (rule_passes key rules h r.0 rule e)).1
+    by (Some rule) e = (and_parts (list_all (pressed_by_action key) rule.press) (list_all (pressed_by_action key) rule.release) (rule_passes key rules h r.0 rule e)).1
 
 -- ---- keys and buttons
 

@@ -2,6 +2,7 @@
 use Rattle.std.specs.Prelude.{◌≡◌, refl, ℕ, Bool, true, false, ◌||◌, ◌==◌, List, [], ◌∷◌, length, Some}
 use Rattle.std.specs.List.{list_any}
 use Rattle.std.proofs.Common.{arith, subst, inr}
+use Rattle.std.proofs.lemmas.Bool.{and_parts}
 use Rattle.message_codec.specs.declared.messages.Msg.TheVariants as msg
 use Rattle.hello_states.specs.declared.part_cause.PartCause.{PartCause}
 use Rattle.hello_states.specs.declared.part_cause.PartCause.TheVariants as cause
@@ -15,7 +16,7 @@ use Rattle.machine.specs.Switching.{tell_entering, tell_leaving, switch, fall_ba
 use Rattle.machine.specs.Partings.{lose, say_farewell, parted, marked, screen_joined, part}
 use Rattle.machine.specs.Slow.{is_too_slow, first_slow, part_first_slow, part_slow}
 use Rattle.machine.proofs.Targets.{same_target-is}
-use Rattle.machine.proofs.Rules.{for_some-keeps, times-keeps, both}
+use Rattle.machine.proofs.Rules.{for_some-keeps, times-keeps}
 use Rattle.machine.proofs.Finding.{found-passes}
 use Rattle.machine.proofs.Live.{lives_as, IsLive, IsTame, tested-live}
 use Rattle.machine.proofs.Invariant.{View, On, IsInvariant}
@@ -76,7 +77,7 @@ part-keeps {P = P} i cause serial s on h =
 -- ---- slow connections
 
 pub slow-live : (s : State) (c : Connection) → first_slow s ≡ Some c → is_live c ≡ true
-slow-live s c f = (both (is_live c) (is_slow s.routed c.serial) (found-passes (is_too_slow s) s.connections c f)).0
+slow-live s c f = (and_parts (is_live c) (is_slow s.routed c.serial) (found-passes (is_too_slow s) s.connections c f)).0
 
 part_first_slow-keeps : {key : ℕ → Bool} {allowed : Origin → Bool} {P : View → Type 0} (i : IsInvariant key allowed P) (s : State) → On P s → On P (part_first_slow s)
 part_first_slow-keeps {P = P} i s h = for_some-keeps (On P) (first_slow s) (λ c. part cause.Slow c.serial) unchanged s (λ c f. part-keeps i cause.Slow c.serial s (tested-live (is_too_slow s) s.connections c f (slow-live s c f)) h) h

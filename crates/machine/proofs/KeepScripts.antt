@@ -1,11 +1,13 @@
 -- Lines of the script and timers keep every invariant.
-use Rattle.std.specs.Prelude.{◌≡◌, refl, ℕ, nat_le, Bool, true, not, List, [], ◌∷◌, if◌then◌else◌}
+use Rattle.std.specs.Prelude.{◌≡◌, refl, ℕ, nat_le, Bool, true, false, not, List, [], ◌∷◌, if◌then◌else◌}
 use Rattle.std.specs.List.{list_all}
 use Rattle.std.proofs.Common.{arith, ap, inr}
+use Rattle.std.proofs.lemmas.Bool.{and_parts}
 use Rattle.message_codec.specs.declared.messages.Msg.TheVariants as msg
 use Rattle.option_table.specs.declared.rows.OptionName.TheVariants as option
 use Rattle.screen_config.specs.Globals.{flag}
 use Rattle.edge_cross.specs.declared.gate.Waiting.{Waiting}
+use Rattle.hello_states.specs.declared.part_cause.PartCause.{PartCause}
 use Rattle.hello_states.specs.declared.part_cause.PartCause.TheVariants as cause
 use Rattle.hello_states.specs.Phases.{Phase, Greeting, Asked, Joined, Parting, is_parting, is_dead_in, is_silent, is_beat_due_in, after_beat_in}
 use Rattle.machine.specs.Scripts.{Line, Sleep, Await, KeyDown, KeyRepeat, KeyUp, ButtonDown, ButtonUp, Motion, Wheel, Saver, Copy, Quit}
@@ -23,7 +25,7 @@ use Rattle.machine.specs.Slow.{part_slow}
 use Rattle.machine.specs.Running.{save, say_bye, quit, does, past, run_line, run_ahead, run_script, may_run}
 use Rattle.machine.specs.Timers.{clock, timer, timers, has_died, was_silent, owes_beat, sent_beat, beat, deaths, silences, beats, switch_through, try, gate_timer, after_timers}
 use Rattle.machine.specs.KeyButtons.{pressed_by_line}
-use Rattle.machine.proofs.Rules.{when-keeps, when-keeps-if, choose-keeps, for_some-keeps, for_each-keeps, both}
+use Rattle.machine.proofs.Rules.{when-keeps, when-keeps-if, choose-keeps, for_some-keeps, for_each-keeps}
 use Rattle.machine.proofs.Live.{IsLive, IsSteady, steady-tame, steady-live, lives-live, found-live, joined-known}
 use Rattle.machine.proofs.Invariant.{View, On, IsInvariant}
 use Rattle.machine.proofs.KeepClipboards.{route_all-keeps, copy-keeps}
@@ -55,7 +57,7 @@ does-keeps i number a b Quit k s h = quit-keeps i s h
 run_ahead-keeps : {key : ℕ → Bool} {allowed : Origin → Bool} {P : View → Type 0} (i : IsInvariant key allowed P) → ((number : ℕ) → allowed (OfLine number) ≡ true) → ((number : ℕ) → allowed (OfAction number) ≡ true) → (lines : List Line) → list_all (pressed_by_line key) lines ≡ true → (s : State) → On P s → On P (run_ahead lines s)
 run_ahead-keeps i a b [] k s h = h
 run_ahead-keeps {key} {P = P} i a b (l ∷ ahead) k s h =
-    let both_pass = both (pressed_by_line key l) (list_all (pressed_by_line key) ahead) k in
+    let both_pass = and_parts (pressed_by_line key l) (list_all (pressed_by_line key) ahead) k in
     let next : On P (run_line l ahead s) = part_slow-keeps i (does s.ran l (past ahead s)) (does-keeps i s.ran (a s.ran) (b s.ran) l both_pass.0 (past ahead s) (i.ahead ahead both_pass.1 s h)) in
     choose-keeps (On P) (may_run s l) (λ t. run_ahead ahead (run_line l ahead t)) unchanged s (λ e. run_ahead-keeps i a b ahead both_pass.1 (run_line l ahead s) next) (λ e. h)
 
@@ -70,32 +72,24 @@ timers-keep {P = P} i has_come rule live k s h = for_each-keeps (On P) (serials 
     one : (serial : ℕ) (t : State) → On P t → On P (timer has_come rule serial t)
     one serial t g = for_some-keeps (On P) (connection t serial) (λ c. when (has_come t c) (λ u. part_slow (rule serial u))) unchanged t (λ c f. when-keeps-if (On P) (has_come t c) (λ u. part_slow (rule serial u)) t (λ e. part_slow-keeps i (rule serial t) (k serial t (found-live serial t.connections c f (live t c e)) g)) g) g
 
-died_live : (s : State) (c : Connection) → has_died s c ≡ true → is_live c ≡ true
-died_live s c h = by c.phase h
+-- a test of phases that no parting passes
+passes_live : (test : Phase → Bool) → ((cause : PartCause) (moment : ℕ) → test (Parting cause moment) ≡ false) → (c : Connection) → test c.phase ≡ true → is_live c ≡ true
+passes_live test none c h = by c.phase h
   where
-    by : (phase : Phase) → is_dead_in phase s.at ≡ true → is_live (record c { phase = phase }) ≡ true
+    by : (phase : Phase) → test phase ≡ true → not (is_parting phase) ≡ true
     by (Greeting a) h = refl
     by (Asked a) h = refl
     by (Joined a) h = refl
-    by (Parting a b) h = grind (arith, h)
+    by (Parting cause moment) h = let no = none cause moment in grind (arith, h, no)
+
+died_live : (s : State) (c : Connection) → has_died s c ≡ true → is_live c ≡ true
+died_live s c h = passes_live (λ phase. is_dead_in phase s.at) (λ cause moment. refl) c h
 
 silent_live : (s : State) (c : Connection) → was_silent s c ≡ true → is_live c ≡ true
-silent_live s c h = by c.phase h
-  where
-    by : (phase : Phase) → is_silent phase s.at ≡ true → is_live (record c { phase = phase }) ≡ true
-    by (Greeting a) h = refl
-    by (Asked a) h = refl
-    by (Joined a) h = refl
-    by (Parting a b) h = grind (arith, h)
+silent_live s c h = passes_live (λ phase. is_silent phase s.at) (λ cause moment. refl) c h
 
 beat_live : (s : State) (c : Connection) → owes_beat s c ≡ true → is_live c ≡ true
-beat_live s c h = by c.phase h
-  where
-    by : (phase : Phase) → is_beat_due_in phase s.at ≡ true → is_live (record c { phase = phase }) ≡ true
-    by (Greeting a) h = refl
-    by (Asked a) h = refl
-    by (Joined a) h = refl
-    by (Parting a b) h = grind (arith, h)
+beat_live s c h = passes_live (λ phase. is_beat_due_in phase s.at) (λ cause moment. refl) c h
 
 beat_parting : (now : ℕ) (phase : Phase) → is_parting (after_beat_in phase now) ≡ is_parting phase
 beat_parting now (Greeting a) = refl

@@ -8,10 +8,10 @@ use Rattle.machine.specs.Combining.{when, choose, for_each, unchanged}
 use Rattle.machine.specs.Screens.{lives, change}
 use Rattle.machine.specs.Partings.{part}
 use Rattle.machine.specs.Slow.{part_slow}
-use Rattle.machine.specs.Inboxes.{Inbox, inbox}
+use Rattle.message_codec.specs.Inboxes.{Inbox}
 use Rattle.machine.specs.Hearing.{hear}
 use Rattle.machine.specs.Timers.{after_timers}
-use Rattle.machine.specs.Steps.{received_by, receives, judge, hear_added, hear_piece, got, drops, breaks, takes, close, moment}
+use Rattle.machine.specs.Steps.{inbox_of, received_by, receives, judge, hear_added, hear_piece, got, drops, breaks, takes, close, moment}
 use Rattle.machine.proofs.Rules.{when-keeps-if, choose-keeps, for_some-keeps, for_each-keeps}
 use Rattle.machine.proofs.Live.{IsSteady, steady-tame, lives-live}
 use Rattle.machine.proofs.Invariant.{View, On, IsInvariant}
@@ -29,7 +29,7 @@ pub receives-steady : (piece : List ℕ) → IsSteady (receives piece)
 receives-steady piece c = (refl, refl)
 
 pub got-keeps : {key : ℕ → Bool} {allowed : Origin → Bool} {P : View → Type 0} (i : IsInvariant key allowed P) (serial : ℕ) (piece : List ℕ) (s : State) → On P s → On P (got serial piece s)
-got-keeps {P = P} i serial piece s h = when-keeps-if (On P) (lives s serial) (hear_piece serial piece) s (λ e. hear_added-keeps i serial (inbox (received_by s serial)) (inbox (received_by s serial ++ piece)) (change serial (receives piece) s) (i.changed serial (receives piece) (steady-tame (receives piece) (receives-steady piece)) s h)) h
+got-keeps {P = P} i serial piece s h = when-keeps-if (On P) (lives s serial) (hear_piece serial piece) s (λ e. hear_added-keeps i serial (inbox_of (received_by s serial)) (inbox_of (received_by s serial ++ piece)) (change serial (receives piece) s) (i.changed serial (receives piece) (steady-tame (receives piece) (receives-steady piece)) s h)) h
 
 pub drops-steady : IsSteady drops
 drops-steady c = (refl, refl)

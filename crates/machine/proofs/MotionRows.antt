@@ -12,7 +12,9 @@ use Rattle.machine.specs.Readings.{active_screen}
 use Rattle.std.specs.Fmt as std_fmt
 use Rattle.share_base.specs.Names.{same_name}
 use Rattle.share_base.specs.Screens.{has}
+use Rattle.message_codec.specs.BodyVerdicts.{body_verdict}
 use Rattle.message_codec.specs.Codes.{code_at}
+use Rattle.message_codec.specs.Messages.{the_signed, the_number, the_list, clip_of, mark_of, field_at, built}
 use Rattle.message_codec.specs.Reading.{read_fields, text_at}
 use Rattle.modifier_map.specs.Presses.{mods_below}
 use Rattle.option_table.specs.Table.{row_of}
@@ -21,7 +23,6 @@ use Rattle.hotkey_rules.specs.Triggers.{rule_for}
 use Rattle.held_inputs.specs.Down.{last_where, down, is_button_down, reach, keys_below, buttons_below, held_keys, held_buttons, releases}
 use Rattle.held_inputs.specs.Screen.{meant_id, meant_mask}
 use Rattle.screen_config.specs.Configurations.{screen_of, with_own, with_global}
-use Rattle.machine.specs.Decoding.{decoded}
 use Rattle.machine.proofs.RowParts.{two_desks, away_between, away_in_circle, halves, join, state_of, log_after, joined_with, joined, crossed, both_join, last_two}
 
 record Rows : Type 0 where
@@ -59,5 +60,5 @@ record Rows : Type 0 where
   lower_corner : (is_in_corner (record { set = 15; size = 20 }) Right 1060 1080 ≡ true) × (is_in_corner (record { set = 15; size = 20 }) Right 1059 1080 ≡ false)
 
 rows : Rows
-unfolding decoded code_at read_fields text_at row_of screen_of same_name sent_of std_fmt.digits mods_below rule_for last_where down is_button_down reach keys_below buttons_below held_keys held_buttons releases meant_id meant_mask has with_own
+unfolding body_verdict the_signed the_number the_list clip_of mark_of field_at built code_at read_fields text_at row_of screen_of same_name sent_of std_fmt.digits mods_below rule_for last_where down is_button_down reach keys_below buttons_below held_keys held_buttons releases meant_id meant_mask has with_own
 rows = record { crosses_and_quits = refl; stays_inside = refl; upper_half = refl; lower_half = refl; below_border = refl; above_border = refl; passes_one_away = refl; walks_no_circle = refl; button_blocks = refl; crosses_back = refl; active_between = refl; ends_with_a_key = refl; active_after = refl; waits = refl; upper_corner = (refl, refl); lower_corner = (refl, refl) }

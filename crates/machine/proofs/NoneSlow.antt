@@ -2,6 +2,8 @@
 use Rattle.std.specs.Prelude.{◌≡◌, refl, ℕ, zero, suc, ◌+◌, ◌≤◌, nat_le, Bool, true, false, not, ◌&&◌, ◌||◌, cond, List, [], ◌∷◌, ◌++◌, length, drop, filter, Option, Some, None}
 use Rattle.std.specs.List.{list_any, find}
 use Rattle.std.proofs.Common.{arith, ap, ◌∙◌}
+use Rattle.std.proofs.lemmas.Bool.{or_parts}
+use Rattle.share_base.proofs.ListTests.{any_none, none_of_find}
 use Rattle.hello_states.specs.declared.part_cause.PartCause.{PartCause}
 use Rattle.hello_states.specs.declared.part_cause.PartCause.TheVariants as cause
 use Rattle.message_codec.specs.declared.messages.Msg.{Msg}
@@ -17,9 +19,9 @@ use Rattle.machine.specs.Slow.{is_too_slow, first_slow, part_first_slow, part_sl
 use Rattle.machine.specs.GateCalls.{waiting}
 use Rattle.machine.specs.Running.{does, past, run_line, run_ahead, may_run}
 use Rattle.machine.specs.Timers.{clock, timer, timers, try, has_died, was_silent, owes_beat, beat, deaths, silences, beats, gate_timer, after_timers}
-use Rattle.machine.specs.Inboxes.{Inbox, inbox}
+use Rattle.message_codec.specs.Inboxes.{Inbox}
 use Rattle.machine.specs.Hearing.{hear, hear_in}
-use Rattle.machine.specs.Steps.{received_by, receives, judge, hear_piece, got, drops, breaks, close, moment}
+use Rattle.machine.specs.Steps.{inbox_of, received_by, receives, judge, hear_piece, got, drops, breaks, close, moment}
 use Rattle.machine.proofs.Rules.{when-keeps, choose-keeps, for_some-keeps, for_each-keeps, times-keeps}
 use Rattle.machine.proofs.Finding.{none_some}
 use Rattle.machine.proofs.Live.{IsLive, IsSteady, tested-live}
@@ -35,12 +37,7 @@ NoneSlow s = list_any (is_too_slow s) s.connections ≡ false
 -- ---- parting one after another
 
 find_none : {X : Type 0} (test : X → Bool) (xs : List X) → find test xs ≡ None → list_any test xs ≡ false
-find_none test [] h = refl
-find_none {X} test (x ∷ xs) h = by (test x) h (find_none test xs)
-  where
-    by : (b : Bool) → cond b (Some x) (find test xs) ≡ None → (find test xs ≡ None → list_any test xs ≡ false) → (b || list_any test xs) ≡ false
-    by true h later = grind (arith, h)
-    by false h later = later h
+find_none test xs h = any_none test xs (none_of_find test xs h)
 
 none_find : {X : Type 0} (test : X → Bool) (xs : List X) (x : X) → list_any test xs ≡ false → find test xs ≡ Some x → ⊥
 none_find test [] y h e = none_some y e
@@ -103,7 +100,7 @@ moment-none t s h =
     let after : State = after_timers t s in
     run_ahead-none after.lines after (gate_timer-none (beats (silences (deaths (clock t s)))) c)
 
--- ---- changes at a connection that neither part it nor tell it anything
+-- ---- changes at a connection that or_parts part it nor tell it anything
 
 steady_none : (routed : List Entry) (serial : ℕ) (f : Connection → Connection) → IsSteady f → (cs : List Connection) → list_any (λ c. is_live c && is_slow routed c.serial) (changed serial f cs) ≡ list_any (λ c. is_live c && is_slow routed c.serial) cs
 steady_none routed serial f steady [] = refl
@@ -119,12 +116,9 @@ steady_none routed serial f steady (c ∷ cs) = both_same (has_serial serial c) 
 pub change-none : (serial : ℕ) (f : Connection → Connection) → IsSteady f → (s : State) → NoneSlow s → NoneSlow (change serial f s)
 change-none serial f steady s h = steady_none s.routed serial f steady s.connections ∙ h
 
-pub neither : (a b : Bool) → (a || b) ≡ false → (a ≡ false) × (b ≡ false)
-neither a b h = (grind (arith, h), grind (arith, h))
-
 fewer_none : (test keep : Connection → Bool) (cs : List Connection) → list_any test cs ≡ false → list_any test (filter keep cs) ≡ false
 fewer_none test keep [] h = refl
-fewer_none test keep (c ∷ cs) h = let parts = neither (test c) (list_any test cs) h in by (keep c) parts.0 (fewer_none test keep cs parts.1)
+fewer_none test keep (c ∷ cs) h = let parts = or_parts (test c) (list_any test cs) h in by (keep c) parts.0 (fewer_none test keep cs parts.1)
   where
     by : (b : Bool) → test c ≡ false → list_any test (filter keep cs) ≡ false → list_any test (cond b (c ∷ filter keep cs) (filter keep cs)) ≡ false
     by true here rest = grind (arith, here, rest)
@@ -143,8 +137,8 @@ got-none serial piece s h = when-keeps NoneSlow (lives s serial) (hear_piece ser
 
     heard : (s : State) → NoneSlow s → NoneSlow (hear_piece serial piece s)
     heard s h =
-        let old = inbox (received_by s serial) in
-        let new = inbox (received_by s serial ++ piece) in
+        let old = inbox_of (received_by s serial) in
+        let new = inbox_of (received_by s serial ++ piece) in
         let added = drop (length old.messages) new.messages in
         let there : State = change serial (receives piece) s in
         judged new (for_each added (hear serial) there) (for_each-keeps NoneSlow added (hear serial) (λ m t k. hear-none serial m t) there (change-none serial (receives piece) (receives-steady piece) s h))

@@ -1,7 +1,8 @@
 -- What smaller rules keep, a rule made of them keeps.
-use Rattle.std.specs.Prelude.{◌≡◌, ℕ, zero, suc, Bool, true, false, ◌&&◌, List, [], ◌∷◌, Option, Some, None}
+use Rattle.std.specs.Prelude.{◌≡◌, ℕ, zero, suc, Bool, true, false, List, [], ◌∷◌, Option, Some, None}
 use Rattle.std.specs.List.{list_all}
 use Rattle.std.proofs.Common.{arith}
+use Rattle.std.proofs.lemmas.Bool.{and_parts}
 use Rattle.machine.specs.Combining.{when, choose, for_some, for_each, times}
 
 pub when-keeps : {S : Type 0} (P : S → Type 0) (b : Bool) (rule : S → S) → ((s : S) → P s → P (rule s)) → (s : S) → P s → P (when b rule s)
@@ -25,13 +26,10 @@ pub for_each-keeps : {A S : Type 0} (P : S → Type 0) (xs : List A) (rule : A �
 for_each-keeps P [] rule k s h = h
 for_each-keeps P (x ∷ xs) rule k s h = for_each-keeps P xs rule k (rule x s) (k x s h)
 
-pub both : (a b : Bool) → (a && b) ≡ true → (a ≡ true) × (b ≡ true)
-both a b h = (grind (arith, h), grind (arith, h))
-
 -- where each passes a test under which the rule keeps it
 pub for_passing-keeps : {A S : Type 0} (P : S → Type 0) (test : A → Bool) (xs : List A) (rule : A → S → S) → ((x : A) → test x ≡ true → (s : S) → P s → P (rule x s)) → list_all test xs ≡ true → (s : S) → P s → P (for_each xs rule s)
 for_passing-keeps P test [] rule k t s h = h
-for_passing-keeps P test (x ∷ xs) rule k t s h = let b = both (test x) (list_all test xs) t in for_passing-keeps P test xs rule k b.1 (rule x s) (k x b.0 s h)
+for_passing-keeps P test (x ∷ xs) rule k t s h = let b = and_parts (test x) (list_all test xs) t in for_passing-keeps P test xs rule k b.1 (rule x s) (k x b.0 s h)
 
 pub times-keeps : {S : Type 0} (P : S → Type 0) (n : ℕ) (rule : S → S) → ((s : S) → P s → P (rule s)) → (s : S) → P s → P (times n rule s)
 times-keeps P zero rule k s h = h

@@ -4,6 +4,7 @@ use Rattle.std.specs.List.{list_any, list_all}
 use Rattle.std.proofs.Common.{arith, subst, sym, ◌∙◌, inr}
 use Rattle.std.proofs.lemmas.Bool.Decides.{nat_tests}
 use Rattle.std.proofs.lemmas.List.Folds.{list_any-append, list_all-append}
+use Rattle.share_base.proofs.ListTests.{all_weaker}
 use Rattle.message_codec.specs.declared.messages.Msg.TheVariants as msg
 use Rattle.screen_config.specs.Configurations.{Configuration}
 use Rattle.hello_states.specs.declared.part_cause.PartCause.TheVariants as cause
@@ -18,7 +19,7 @@ use Rattle.machine.specs.Happenings.{Happening, Joined, Got, Ended, Failed, Took
 use Rattle.machine.specs.Steps.{takes, step, run}
 use Rattle.machine.specs.Runs.{AreAllowed}
 use Rattle.machine.specs.KeyButtons.{is_key_button, pressed_by_rule, pressed_by_line}
-use Rattle.machine.proofs.Rules.{choose-keeps, both}
+use Rattle.machine.proofs.Rules.{choose-keeps}
 use Rattle.machine.proofs.LeftDown.{IsQuiet, quiet-none, since-none}
 use Rattle.machine.proofs.Live.{lives_as, IsLive}
 use Rattle.machine.proofs.Invariant.{View, On, IsInvariant}
@@ -50,15 +51,11 @@ upto_more : (latest serial : ℕ) (t : Target) → latest < serial → is_upto l
 upto_more latest serial Primary a h = refl
 upto_more latest serial (Client n) a h = grind (arith, nat_tests, a, h)
 
-all_upto : {X : Type 0} (test wider : X → Bool) → ((x : X) → test x ≡ true → wider x ≡ true) → (xs : List X) → list_all test xs ≡ true → list_all wider xs ≡ true
-all_upto test wider k [] h = refl
-all_upto test wider k (x ∷ xs) h = let parts = both (test x) (list_all test xs) h in let here = k x parts.0 in let rest = all_upto test wider k xs parts.1 in grind (arith, here, rest)
-
 opened_below : (latest serial : ℕ) (s : State) → latest < serial → On (BelowLatest latest) s → On (BelowLatest serial) (opened serial s)
 opened_below latest serial s a h = record {
   active = upto_more latest serial s.active a h.active;
-  connections = list_all-append (connection_upto serial) s.connections (fresh serial s.at ∷ []) ∙ ends (all_upto (connection_upto latest) (connection_upto serial) (λ c k. upto_more latest serial (Client c.serial) a k) s.connections h.connections);
-  routed = all_upto (entry_upto latest) (entry_upto serial) (λ e k. upto_more latest serial e.target a k) s.routed h.routed;
+  connections = list_all-append (connection_upto serial) s.connections (fresh serial s.at ∷ []) ∙ ends (all_weaker (connection_upto latest) (connection_upto serial) (λ c k. upto_more latest serial (Client c.serial) a k) s.connections h.connections);
+  routed = all_weaker (entry_upto latest) (entry_upto serial) (λ e k. upto_more latest serial e.target a k) s.routed h.routed;
 }
   where
     ends : list_all (connection_upto serial) s.connections ≡ true → (list_all (connection_upto serial) s.connections && (nat_le serial serial && true)) ≡ true
