@@ -15,7 +15,7 @@ mod range;
 mod tests;
 mod walk;
 
-pub use laws::{one_landing, pixel_again};
+pub use laws::{landing_is_across, one_landing, pixel_again};
 pub use link::{Landing, Link};
 pub use links::{LinkFault, Links, MOST_LINKS};
 pub use places::{pixel, place};
