@@ -362,71 +362,108 @@ fn each_text_has_its_first_bad_line(rt: HostRuntime) -> Result<(), Fail> {
     check(&rt, rt.alloc(), &config, &connections())
 }
 
+fn repeated(
+    alloc: Global,
+    begin: &[u8],
+    part: &[u8],
+    count: u32,
+    end: &[u8],
+) -> Result<Vec<u8>, Fail> {
+    let mut text = Vec::from_slice(alloc, begin)?;
+    for _ in 0..count {
+        text.extend_from_slice(part)?;
+    }
+    text.extend_from_slice(end)?;
+    Ok(text)
+}
+
 #[test]
 fn limits_are_met(rt: HostRuntime) -> Result<(), Fail> {
     let alloc = rt.alloc();
     let config = screens(alloc)?;
-    let mut empty = vec![in alloc; b'\n'; 1_000_000]?;
-    assert_eq!(rt; verdict(alloc, Client, &empty, &config)?, None);
-    empty.push(b'\n')?;
-    assert_eq!(rt;
-        verdict(alloc, Client, &empty, &config)?,
-        Some((1_000_001, TooLong))
-    );
-    assert_eq!(rt;
-        verdict(alloc, Turns, &empty, &config)?,
-        Some((1_000_001, TooLong))
-    );
-    assert_eq!(rt;
-        verdict(alloc, Server, &empty, &config)?,
-        Some((1_000_001, TooLong))
-    );
-    let mut copy = Vec::from_slice(alloc, b"copy 0 ")?;
-    for _ in 0..4_194_304 {
-        copy.extend_from_slice(b"aF")?;
-    }
-    assert_eq!(rt; verdict(alloc, Client, &copy, &config)?, None);
-    copy.extend_from_slice(b"00")?;
-    assert_eq!(rt; verdict(alloc, Client, &copy, &config)?, Some((1, BadHex)));
+    let lines = [b'\n'; 1_000];
+    let full = repeated(alloc, b"", &lines, 1_000, b"")?;
+    assert_eq!(rt; verdict(alloc, Client, &full, &config)?, None);
+    let over = repeated(alloc, b"", &lines, 1_000, b"\n")?;
+    let too_long = Some((1_000_001, TooLong));
+    assert_eq!(rt; verdict(alloc, Client, &over, &config)?, too_long);
+    assert_eq!(rt; verdict(alloc, Turns, &over, &config)?, too_long);
+    assert_eq!(rt; verdict(alloc, Server, &over, &config)?, too_long);
+    let digits = [b'a'; 1_024];
+    let full = repeated(alloc, b"copy 0 ", &digits, 8_192, b"")?;
+    assert_eq!(rt; verdict(alloc, Client, &full, &config)?, None);
+    let over = repeated(alloc, b"copy 0 ", &digits, 8_192, b"00")?;
+    assert_eq!(rt; verdict(alloc, Client, &over, &config)?, Some((1, BadHex)));
     Ok(())
+}
+
+fn told_script(alloc: Global, text: &[u8], config: &Config) -> Result<String, Fail> {
+    let script = read_script(alloc, text, config)?;
+    let (primary, w, h, lines) = (script.primary(), script.w(), script.h(), script.lines());
+    Ok(format!(in alloc; "{primary:?} {w} {h} {lines:?}")?)
+}
+
+fn told_client_script(alloc: Global, text: &[u8]) -> Result<String, Fail> {
+    let script = read_client_script(alloc, text)?;
+    let lines = script.lines();
+    Ok(format!(in alloc; "{lines:?}")?)
+}
+
+fn told_trace(alloc: Global, text: &[u8]) -> Result<String, Fail> {
+    let trace = read_trace(alloc, text)?;
+    let lines = trace.lines();
+    Ok(format!(in alloc; "{lines:?}")?)
 }
 
 #[test]
 fn lines_have_their_words(rt: HostRuntime) -> Result<(), Fail> {
     let alloc = rt.alloc();
     let config = screens(alloc)?;
-    let script = read_script(
+    let told = told_script(
         alloc,
-        b"primary pad 800 600\nsleep 7\nawait desk\nkey down 97 38\nkey repeat 2 38\nkey up 38\n\
-        button down 3\nbutton up 3\nmotion -5 6\nwheel 0 -120\nsaver on\nsaver off\ncopy 1 0aF0\nquit",
+        b"primary pad 800 600\nsleep 7\nawait desk\nkey down 97 38\nkey repeat 2 38\nkey up 38",
         &config,
     )?;
     assert_eq!(rt;
-        (script.primary(), script.w(), script.h()),
-        (ScreenNo(1), 800, 600)
+        told.as_str(),
+        "ScreenNo(1) 800 600 [Sleep(7), Await(ScreenNo(0)), \
+        KeyDown { id: KeyId(97), button: Button(38) }, \
+        KeyRepeat { count: 2, button: Button(38) }, KeyUp(Button(38))]"
     );
-    let lines = script.lines();
-    let told = format!(in alloc; "{lines:?}")?;
+    let told = told_script(
+        alloc,
+        b"primary desk 1 1\nbutton down 3\nbutton up 3\nmotion -5 6\nwheel 0 -120",
+        &config,
+    )?;
     assert_eq!(rt;
         told.as_str(),
-        "[Sleep(7), Await(ScreenNo(0)), KeyDown { id: KeyId(97), button: Button(38) }, KeyRepeat { count: 2, button: Button(38) }, KeyUp(Button(38)), ButtonDown(MouseButton(3)), ButtonUp(MouseButton(3)), Motion { dx: -5, dy: 6 }, Wheel { x: 0, y: -120 }, Saver(true), Saver(false), Copy { clip: Selection, bytes: Octets { bytes: [10, 240] } }, Quit]"
+        "ScreenNo(0) 1 1 [ButtonDown(MouseButton(3)), ButtonUp(MouseButton(3)), \
+        Motion { dx: -5, dy: 6 }, Wheel { x: 0, y: -120 }]"
     );
-    let client = read_client_script(alloc, b"sleep 7\ncopy 0 61\nresize 640 480")?;
-    let lines = client.lines();
-    let told = format!(in alloc; "{lines:?}")?;
+    let told = told_script(
+        alloc,
+        b"primary desk 1 1\nsaver on\nsaver off\ncopy 1 0aF0\nquit",
+        &config,
+    )?;
     assert_eq!(rt;
         told.as_str(),
-        "[Sleep(7), Copy { clip: Clipboard, bytes: Octets { bytes: [97] } }, Resize { w: 640, h: 480 }]"
+        "ScreenNo(0) 1 1 [Saver(true), Saver(false), \
+        Copy { clip: Selection, bytes: Octets { bytes: [10, 240] } }, Quit]"
     );
-    let trace = read_trace(
+    let told = told_client_script(alloc, b"sleep 7\ncopy 0 61\nresize 640 480")?;
+    assert_eq!(rt;
+        told.as_str(),
+        "[Sleep(7), Copy { clip: Clipboard, bytes: Octets { bytes: [97] } }, \
+        Resize { w: 640, h: 480 }]"
+    );
+    let told = told_trace(
         alloc,
         b"turn 3\njoin 1\ngot 1 61\nroom 1 9\nend 1\njoin 2\nfail 2",
     )?;
-    let lines = trace.lines();
-    let told = format!(in alloc; "{lines:?}")?;
     assert_eq!(rt;
         told.as_str(),
-        "[Turn(3), Join(1), Got { connection: 1, bytes: Octets { bytes: [97] } }, Room { connection: 1, room: 9 }, End(1), Join(2), Fail(2)]"
+        "[Turn(3), Join(1), Got { connection: 1, bytes: Octets { bytes: [97] } }, \
+        Room { connection: 1, room: 9 }, End(1), Join(2), Fail(2)]"
     );
     Ok(())
 }
