@@ -381,18 +381,17 @@ fn repeated(
 fn limits_are_met(rt: HostRuntime) -> Result<(), Fail> {
     let alloc = rt.alloc();
     let config = screens(alloc)?;
-    let lines = [b'\n'; 1_000];
-    let full = repeated(alloc, b"", &lines, 1_000, b"")?;
+    let lines = b"\n\n\n\n\n\n\n\n\n\n";
+    let full = repeated(alloc, b"", lines, 100_000, b"")?;
     assert_eq!(rt; verdict(alloc, Client, &full, &config)?, None);
-    let over = repeated(alloc, b"", &lines, 1_000, b"\n")?;
+    let over = repeated(alloc, b"", lines, 100_000, b"\n")?;
     let too_long = Some((1_000_001, TooLong));
     assert_eq!(rt; verdict(alloc, Client, &over, &config)?, too_long);
     assert_eq!(rt; verdict(alloc, Turns, &over, &config)?, too_long);
     assert_eq!(rt; verdict(alloc, Server, &over, &config)?, too_long);
-    let digits = [b'a'; 1_024];
-    let full = repeated(alloc, b"copy 0 ", &digits, 8_192, b"")?;
+    let full = repeated(alloc, b"copy 0 ", b"aF09aF09", 1_048_576, b"")?;
     assert_eq!(rt; verdict(alloc, Client, &full, &config)?, None);
-    let over = repeated(alloc, b"copy 0 ", &digits, 8_192, b"00")?;
+    let over = repeated(alloc, b"copy 0 ", b"aF09aF09", 1_048_576, b"00")?;
     assert_eq!(rt; verdict(alloc, Client, &over, &config)?, Some((1, BadHex)));
     Ok(())
 }
@@ -415,55 +414,75 @@ fn told_trace(alloc: Global, text: &[u8]) -> Result<String, Fail> {
     Ok(format!(in alloc; "{lines:?}")?)
 }
 
+fn told(alloc: Global, which: Which, text: &[u8], config: &Config) -> Result<String, Fail> {
+    match which {
+        Server => told_script(alloc, text, config),
+        Client => told_client_script(alloc, text),
+        Turns => told_trace(alloc, text),
+    }
+}
+
+/// A text, and its lines as they are shown.
+#[derive(Drop)]
+struct Shown(Which, &'static [u8], &'static str);
+
+fn keys_shown() -> [Shown; 2] {
+    [
+        Shown(
+            Server,
+            b"primary pad 800 600\nsleep 7\nawait desk\nkey down 97 38\nkey repeat 2 38\nkey up 38",
+            "ScreenNo(1) 800 600 [Sleep(7), Await(ScreenNo(0)), \
+            KeyDown { id: KeyId(97), button: Button(38) }, \
+            KeyRepeat { count: 2, button: Button(38) }, KeyUp(Button(38))]",
+        ),
+        Shown(
+            Server,
+            b"primary desk 1 1\nbutton down 3\nbutton up 3\nmotion -5 6\nwheel 0 -120",
+            "ScreenNo(0) 1 1 [ButtonDown(MouseButton(3)), ButtonUp(MouseButton(3)), \
+            Motion { dx: -5, dy: 6 }, Wheel { x: 0, y: -120 }]",
+        ),
+    ]
+}
+
+fn others_shown() -> [Shown; 3] {
+    [
+        Shown(
+            Server,
+            b"primary desk 1 1\nsaver on\nsaver off\ncopy 1 0aF0\nquit",
+            "ScreenNo(0) 1 1 [Saver(true), Saver(false), \
+            Copy { clip: Selection, bytes: Octets { bytes: [10, 240] } }, Quit]",
+        ),
+        Shown(
+            Client,
+            b"sleep 7\ncopy 0 61\nresize 640 480",
+            "[Sleep(7), Copy { clip: Clipboard, bytes: Octets { bytes: [97] } }, \
+            Resize { w: 640, h: 480 }]",
+        ),
+        Shown(
+            Turns,
+            b"turn 3\njoin 1\ngot 1 61\nroom 1 9\nend 1\njoin 2\nfail 2",
+            "[Turn(3), Join(1), Got { connection: 1, bytes: Octets { bytes: [97] } }, \
+            Room { connection: 1, room: 9 }, End(1), Join(2), Fail(2)]",
+        ),
+    ]
+}
+
+fn check_shown(
+    rt: &impl Abort,
+    alloc: Global,
+    config: &Config,
+    rows: &[Shown],
+) -> Result<(), Fail> {
+    for row in rows {
+        let found = told(alloc, row.0, row.1, config)?;
+        assert_eq!(rt; found.as_str(), row.2);
+    }
+    Ok(())
+}
+
 #[test]
 fn lines_have_their_words(rt: HostRuntime) -> Result<(), Fail> {
-    let alloc = rt.alloc();
-    let config = screens(alloc)?;
-    let told = told_script(
-        alloc,
-        b"primary pad 800 600\nsleep 7\nawait desk\nkey down 97 38\nkey repeat 2 38\nkey up 38",
-        &config,
-    )?;
-    assert_eq!(rt;
-        told.as_str(),
-        "ScreenNo(1) 800 600 [Sleep(7), Await(ScreenNo(0)), \
-        KeyDown { id: KeyId(97), button: Button(38) }, \
-        KeyRepeat { count: 2, button: Button(38) }, KeyUp(Button(38))]"
-    );
-    let told = told_script(
-        alloc,
-        b"primary desk 1 1\nbutton down 3\nbutton up 3\nmotion -5 6\nwheel 0 -120",
-        &config,
-    )?;
-    assert_eq!(rt;
-        told.as_str(),
-        "ScreenNo(0) 1 1 [ButtonDown(MouseButton(3)), ButtonUp(MouseButton(3)), \
-        Motion { dx: -5, dy: 6 }, Wheel { x: 0, y: -120 }]"
-    );
-    let told = told_script(
-        alloc,
-        b"primary desk 1 1\nsaver on\nsaver off\ncopy 1 0aF0\nquit",
-        &config,
-    )?;
-    assert_eq!(rt;
-        told.as_str(),
-        "ScreenNo(0) 1 1 [Saver(true), Saver(false), \
-        Copy { clip: Selection, bytes: Octets { bytes: [10, 240] } }, Quit]"
-    );
-    let told = told_client_script(alloc, b"sleep 7\ncopy 0 61\nresize 640 480")?;
-    assert_eq!(rt;
-        told.as_str(),
-        "[Sleep(7), Copy { clip: Clipboard, bytes: Octets { bytes: [97] } }, \
-        Resize { w: 640, h: 480 }]"
-    );
-    let told = told_trace(
-        alloc,
-        b"turn 3\njoin 1\ngot 1 61\nroom 1 9\nend 1\njoin 2\nfail 2",
-    )?;
-    assert_eq!(rt;
-        told.as_str(),
-        "[Turn(3), Join(1), Got { connection: 1, bytes: Octets { bytes: [97] } }, \
-        Room { connection: 1, room: 9 }, End(1), Join(2), Fail(2)]"
-    );
-    Ok(())
+    let config = screens(rt.alloc())?;
+    check_shown(&rt, rt.alloc(), &config, &keys_shown())?;
+    check_shown(&rt, rt.alloc(), &config, &others_shown())
 }
