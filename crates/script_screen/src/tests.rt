@@ -1,13 +1,12 @@
 use crate::TextKind::{
     AlreadyDown, BadHex, BadNumber, BadWord, MomentBack, NoPrimary, NoTurn, NotDown, SecondPrimary,
-    TooLong, UnknownConnection, UnknownScreen, WrongNumber,
+    UnknownConnection, UnknownScreen, WrongNumber,
 };
 use crate::tests::Which::{Client, Server, Turns};
 use crate::*;
 use screen_config::Config;
-use share_base::{ScreenName, ScreenNo};
+use share_base::ScreenName;
 use std::alloc::Global;
-use std::process::Abort;
 use std::test::*;
 
 /// Which text is read.
@@ -18,295 +17,265 @@ enum Which {
     Turns,
 }
 
-/// A text and its first bad line, if it has one.
-#[derive(Drop)]
-struct Row(Which, &'static [u8], Option<(u32, TextKind)>);
-
-fn first_lines() -> [Row; 12] {
-    [
-        Row(Server, b"", Some((1, NoPrimary))),
-        Row(Server, b"# nothing\n\n \t\n", Some((1, NoPrimary))),
-        Row(Server, b"\nquit\n", Some((2, NoPrimary))),
-        Row(Server, b"motion 40000 0", Some((1, NoPrimary))),
-        Row(Server, b"primary", Some((1, BadWord))),
-        Row(Server, b"primary desk 1920 1080 0", Some((1, BadWord))),
-        Row(Server, b"Primary desk 1 1", Some((1, BadWord))),
-        Row(Server, b"primary desk 0 1", Some((1, BadNumber))),
-        Row(Server, b"primary desk 1 32768", Some((1, BadNumber))),
-        Row(Server, b"\tprimary\tDESK  32767 1 # big", None),
-        Row(Server, b"primary nobody 0 1", Some((1, BadNumber))),
-        Row(Server, b"primary nobody 1 1", Some((1, UnknownScreen))),
-    ]
-}
-
-fn keys_and_pauses() -> [Row; 23] {
-    [
-        Row(
-            Server,
-            b"primary desk 1920 1080\nprimary desk 0 0",
-            Some((2, SecondPrimary)),
-        ),
-        Row(
-            Server,
-            b"primary desk 1920 1080\nprimary desk",
-            Some((2, BadWord)),
-        ),
-        Row(Server, b"primary desk 1920 1080\nsleep 86400000", None),
-        Row(
-            Server,
-            b"primary desk 1920 1080\nsleep 86400001",
-            Some((2, BadNumber)),
-        ),
-        Row(Server, b"primary desk 1920 1080\nsleep 0", None),
-        Row(
-            Server,
-            b"primary desk 1920 1080\nsleep 00",
-            Some((2, BadNumber)),
-        ),
-        Row(
-            Server,
-            b"primary desk 1920 1080\nsleep -1",
-            Some((2, BadNumber)),
-        ),
-        Row(
-            Server,
-            b"primary desk 1920 1080\nsleep 1x",
-            Some((2, BadNumber)),
-        ),
-        Row(Server, b"primary desk 1920 1080\nawait PAD", None),
-        Row(
-            Server,
-            b"primary desk 1920 1080\nawait nobody",
-            Some((2, UnknownScreen)),
-        ),
-        Row(Server, b"primary desk 1920 1080\nkey down 65535 255", None),
-        Row(Server, b"primary desk 1920 1080\nkey down 1 1", None),
-        Row(
-            Server,
-            b"primary desk 1920 1080\nkey down 0 1",
-            Some((2, BadNumber)),
-        ),
-        Row(
-            Server,
-            b"primary desk 1920 1080\nkey down 65536 1",
-            Some((2, BadNumber)),
-        ),
-        Row(
-            Server,
-            b"primary desk 1920 1080\nkey down 1 0",
-            Some((2, BadNumber)),
-        ),
-        Row(
-            Server,
-            b"primary desk 1920 1080\nkey down 1 256",
-            Some((2, BadNumber)),
-        ),
-        Row(
-            Server,
-            b"primary desk 1920 1080\nkey up 38",
-            Some((2, NotDown)),
-        ),
-        Row(
-            Server,
-            b"primary desk 1920 1080\nkey repeat 1 38",
-            Some((2, NotDown)),
-        ),
-        Row(
-            Server,
-            b"primary desk 1920 1080\nkey repeat 0 38",
-            Some((2, BadNumber)),
-        ),
-        Row(
-            Server,
-            b"primary desk 1920 1080\nkey down 97 1\nkey down 98 1",
-            Some((3, AlreadyDown)),
-        ),
-        Row(
-            Server,
-            b"primary desk 1920 1080\nkey down 97 1\nbutton down 1",
-            None,
-        ),
-        Row(
-            Server,
-            b"primary desk 1920 1080\nkey down 97 1\nkey up 1\nkey down 97 1",
-            None,
-        ),
-        Row(
-            Server,
-            b"primary desk 1920 1080\nkey down 97 1\nkey repeat 65535 1\nkey up 1\nkey up 1",
-            Some((5, NotDown)),
-        ),
-    ]
-}
-
-fn pointers_and_clipboards() -> [Row; 24] {
-    [
-        Row(
-            Server,
-            b"primary desk 1920 1080\nbutton down 255\nbutton down 255",
-            Some((3, AlreadyDown)),
-        ),
-        Row(
-            Server,
-            b"primary desk 1920 1080\nbutton down 0",
-            Some((2, BadNumber)),
-        ),
-        Row(
-            Server,
-            b"primary desk 1920 1080\nbutton down 256",
-            Some((2, BadNumber)),
-        ),
-        Row(
-            Server,
-            b"primary desk 1920 1080\nbutton up 3",
-            Some((2, NotDown)),
-        ),
-        Row(Server, b"primary desk 1920 1080\nmotion -32768 32767", None),
-        Row(
-            Server,
-            b"primary desk 1920 1080\nmotion -32769 0",
-            Some((2, BadNumber)),
-        ),
-        Row(
-            Server,
-            b"primary desk 1920 1080\nmotion 0 32768",
-            Some((2, BadNumber)),
-        ),
-        Row(
-            Server,
-            b"primary desk 1920 1080\nmotion -0 0",
-            Some((2, BadNumber)),
-        ),
-        Row(
-            Server,
-            b"primary desk 1920 1080\nwheel 0 -",
-            Some((2, BadNumber)),
-        ),
-        Row(Server, b"primary desk 1920 1080\nwheel 0 120", None),
-        Row(Server, b"primary desk 1920 1080\nsaver on\nsaver off", None),
-        Row(Server, b"primary desk 1920 1080\nsaver", Some((2, BadWord))),
-        Row(
-            Server,
-            b"primary desk 1920 1080\nsaver maybe",
-            Some((2, BadWord)),
-        ),
-        Row(
-            Server,
-            b"primary desk 1920 1080\ncopy 1 -\ncopy 0 aBFf09",
-            None,
-        ),
-        Row(
-            Server,
-            b"primary desk 1920 1080\ncopy 2 xyz",
-            Some((2, BadNumber)),
-        ),
-        Row(
-            Server,
-            b"primary desk 1920 1080\ncopy 0 abc",
-            Some((2, BadHex)),
-        ),
-        Row(
-            Server,
-            b"primary desk 1920 1080\ncopy 0 --",
-            Some((2, BadHex)),
-        ),
-        Row(
-            Server,
-            b"primary desk 1920 1080\ncopy 0 0g",
-            Some((2, BadHex)),
-        ),
-        Row(
-            Server,
-            b"primary desk 1920 1080\ncopy 0",
-            Some((2, BadWord)),
-        ),
-        Row(
-            Server,
-            b"primary desk 1920 1080\nquit now",
-            Some((2, BadWord)),
-        ),
-        Row(
-            Server,
-            b"primary desk 1920 1080\nresize 1 1",
-            Some((2, BadWord)),
-        ),
-        Row(
-            Server,
-            b"primary desk 1920 1080\nquit\x80",
-            Some((2, BadWord)),
-        ),
-        Row(Server, b"primary desk 1920 1080\nquit # \x80\r\nquit", None),
-        Row(
-            Server,
-            b"primary desk 1920 1080\nquit\r\r\n",
-            Some((2, BadWord)),
-        ),
-    ]
-}
-
-fn client_scripts() -> [Row; 9] {
-    [
-        Row(Client, b"", None),
-        Row(Client, b"sleep 86400001", Some((1, BadNumber))),
-        Row(Client, b"copy 2 -", Some((1, BadNumber))),
-        Row(Client, b"copy 0 1", Some((1, BadHex))),
-        Row(Client, b"resize 32767 1", None),
-        Row(Client, b"resize 1 32768", Some((1, BadNumber))),
-        Row(Client, b"resize 0 1", Some((1, BadNumber))),
-        Row(Client, b"\n\nresize 1", Some((3, BadWord))),
-        Row(Client, b"quit", Some((1, BadWord))),
-    ]
-}
-
-fn turns() -> [Row; 9] {
-    [
-        Row(Turns, b"", None),
-        Row(Turns, b"join 1", Some((1, NoTurn))),
-        Row(Turns, b"join x", Some((1, NoTurn))),
-        Row(Turns, b"jump", Some((1, BadWord))),
-        Row(Turns, b"turn", Some((1, BadWord))),
-        Row(Turns, b"turn 18446744073709551615", None),
-        Row(Turns, b"turn 18446744073709551616", Some((1, BadNumber))),
-        Row(Turns, b"turn 5\nturn 5", None),
-        Row(Turns, b"\n# back\nturn 5\nturn 4", Some((4, MomentBack))),
-    ]
-}
-
-fn connections() -> [Row; 15] {
-    [
-        Row(Turns, b"turn 0\njoin 1\njoin 2", None),
-        Row(Turns, b"turn 0\njoin 2", Some((2, WrongNumber))),
-        Row(Turns, b"turn 0\njoin 0", Some((2, WrongNumber))),
-        Row(Turns, b"turn 0\njoin 1\njoin 1", Some((3, WrongNumber))),
-        Row(Turns, b"turn 0\ngot 1 0aFF", None),
-        Row(Turns, b"turn 0\ngot 1 -", Some((2, BadHex))),
-        Row(Turns, b"turn 0\ngot 1 0", Some((2, BadHex))),
-        Row(Turns, b"turn 0\ngot 0 00", Some((2, UnknownConnection))),
-        Row(Turns, b"turn 0\ngot 2 00", Some((2, UnknownConnection))),
-        Row(
-            Turns,
-            b"turn 0\nend 1\ngot 1 00",
-            Some((3, UnknownConnection)),
-        ),
-        Row(Turns, b"turn 0\nend 1\njoin 1\nroom 1 0", None),
-        Row(
-            Turns,
-            b"turn 0\nend 1\njoin 1\ngot 1 00",
-            Some((4, UnknownConnection)),
-        ),
-        Row(
-            Turns,
-            b"turn 0\nfail 1\nend 1",
-            Some((3, UnknownConnection)),
-        ),
-        Row(Turns, b"turn 0\nroom 2 5", Some((2, UnknownConnection))),
-        Row(
-            Turns,
-            b"turn 0\nroom 1 18446744073709551616",
-            Some((2, BadNumber)),
-        ),
-    ]
-}
+/// Texts, each with its first bad line, if it has one. Server scripts are read with the screens desk and pad.
+const ROWS: [(Which, &[u8], Option<(u32, TextKind)>); 92] = [
+    (Server, b"", Some((1, NoPrimary))),
+    (Server, b"# nothing\n\n \t\n", Some((1, NoPrimary))),
+    (Server, b"\nquit\n", Some((2, NoPrimary))),
+    (Server, b"motion 40000 0", Some((1, NoPrimary))),
+    (Server, b"primary", Some((1, BadWord))),
+    (Server, b"primary desk 1920 1080 0", Some((1, BadWord))),
+    (Server, b"Primary desk 1 1", Some((1, BadWord))),
+    (Server, b"primary desk 0 1", Some((1, BadNumber))),
+    (Server, b"primary desk 1 32768", Some((1, BadNumber))),
+    (Server, b"\tprimary\tDESK  32767 1 # big", None),
+    (Server, b"primary nobody 0 1", Some((1, BadNumber))),
+    (Server, b"primary nobody 1 1", Some((1, UnknownScreen))),
+    (
+        Server,
+        b"primary desk 1920 1080\nprimary desk 0 0",
+        Some((2, SecondPrimary)),
+    ),
+    (
+        Server,
+        b"primary desk 1920 1080\nprimary desk",
+        Some((2, BadWord)),
+    ),
+    (Server, b"primary desk 1920 1080\nsleep 86400000", None),
+    (
+        Server,
+        b"primary desk 1920 1080\nsleep 86400001",
+        Some((2, BadNumber)),
+    ),
+    (Server, b"primary desk 1920 1080\nsleep 0", None),
+    (
+        Server,
+        b"primary desk 1920 1080\nsleep 00",
+        Some((2, BadNumber)),
+    ),
+    (
+        Server,
+        b"primary desk 1920 1080\nsleep -1",
+        Some((2, BadNumber)),
+    ),
+    (
+        Server,
+        b"primary desk 1920 1080\nsleep 1x",
+        Some((2, BadNumber)),
+    ),
+    (Server, b"primary desk 1920 1080\nawait PAD", None),
+    (
+        Server,
+        b"primary desk 1920 1080\nawait nobody",
+        Some((2, UnknownScreen)),
+    ),
+    (Server, b"primary desk 1920 1080\nkey down 65535 255", None),
+    (Server, b"primary desk 1920 1080\nkey down 1 1", None),
+    (
+        Server,
+        b"primary desk 1920 1080\nkey down 0 1",
+        Some((2, BadNumber)),
+    ),
+    (
+        Server,
+        b"primary desk 1920 1080\nkey down 65536 1",
+        Some((2, BadNumber)),
+    ),
+    (
+        Server,
+        b"primary desk 1920 1080\nkey down 1 0",
+        Some((2, BadNumber)),
+    ),
+    (
+        Server,
+        b"primary desk 1920 1080\nkey down 1 256",
+        Some((2, BadNumber)),
+    ),
+    (
+        Server,
+        b"primary desk 1920 1080\nkey up 38",
+        Some((2, NotDown)),
+    ),
+    (
+        Server,
+        b"primary desk 1920 1080\nkey repeat 1 38",
+        Some((2, NotDown)),
+    ),
+    (
+        Server,
+        b"primary desk 1920 1080\nkey repeat 0 38",
+        Some((2, BadNumber)),
+    ),
+    (
+        Server,
+        b"primary desk 1920 1080\nkey down 97 1\nkey down 98 1",
+        Some((3, AlreadyDown)),
+    ),
+    (
+        Server,
+        b"primary desk 1920 1080\nkey down 97 1\nbutton down 1",
+        None,
+    ),
+    (
+        Server,
+        b"primary desk 1920 1080\nkey down 97 1\nkey up 1\nkey down 97 1",
+        None,
+    ),
+    (
+        Server,
+        b"primary desk 1920 1080\nkey down 97 1\nkey repeat 65535 1\nkey up 1\nkey up 1",
+        Some((5, NotDown)),
+    ),
+    (
+        Server,
+        b"primary desk 1920 1080\nbutton down 255\nbutton down 255",
+        Some((3, AlreadyDown)),
+    ),
+    (
+        Server,
+        b"primary desk 1920 1080\nbutton down 0",
+        Some((2, BadNumber)),
+    ),
+    (
+        Server,
+        b"primary desk 1920 1080\nbutton down 256",
+        Some((2, BadNumber)),
+    ),
+    (
+        Server,
+        b"primary desk 1920 1080\nbutton up 3",
+        Some((2, NotDown)),
+    ),
+    (Server, b"primary desk 1920 1080\nmotion -32768 32767", None),
+    (
+        Server,
+        b"primary desk 1920 1080\nmotion -32769 0",
+        Some((2, BadNumber)),
+    ),
+    (
+        Server,
+        b"primary desk 1920 1080\nmotion 0 32768",
+        Some((2, BadNumber)),
+    ),
+    (
+        Server,
+        b"primary desk 1920 1080\nmotion -0 0",
+        Some((2, BadNumber)),
+    ),
+    (
+        Server,
+        b"primary desk 1920 1080\nwheel 0 -",
+        Some((2, BadNumber)),
+    ),
+    (Server, b"primary desk 1920 1080\nwheel 0 120", None),
+    (Server, b"primary desk 1920 1080\nsaver on\nsaver off", None),
+    (Server, b"primary desk 1920 1080\nsaver", Some((2, BadWord))),
+    (
+        Server,
+        b"primary desk 1920 1080\nsaver maybe",
+        Some((2, BadWord)),
+    ),
+    (
+        Server,
+        b"primary desk 1920 1080\ncopy 1 -\ncopy 0 aBFf09",
+        None,
+    ),
+    (
+        Server,
+        b"primary desk 1920 1080\ncopy 2 xyz",
+        Some((2, BadNumber)),
+    ),
+    (
+        Server,
+        b"primary desk 1920 1080\ncopy 0 abc",
+        Some((2, BadHex)),
+    ),
+    (
+        Server,
+        b"primary desk 1920 1080\ncopy 0 --",
+        Some((2, BadHex)),
+    ),
+    (
+        Server,
+        b"primary desk 1920 1080\ncopy 0 0g",
+        Some((2, BadHex)),
+    ),
+    (
+        Server,
+        b"primary desk 1920 1080\ncopy 0",
+        Some((2, BadWord)),
+    ),
+    (
+        Server,
+        b"primary desk 1920 1080\nquit now",
+        Some((2, BadWord)),
+    ),
+    (
+        Server,
+        b"primary desk 1920 1080\nresize 1 1",
+        Some((2, BadWord)),
+    ),
+    (
+        Server,
+        b"primary desk 1920 1080\nquit\x80",
+        Some((2, BadWord)),
+    ),
+    (Server, b"primary desk 1920 1080\nquit # \x80\r\nquit", None),
+    (
+        Server,
+        b"primary desk 1920 1080\nquit\r\r\n",
+        Some((2, BadWord)),
+    ),
+    (Client, b"", None),
+    (Client, b"sleep 86400001", Some((1, BadNumber))),
+    (Client, b"copy 2 -", Some((1, BadNumber))),
+    (Client, b"copy 0 1", Some((1, BadHex))),
+    (Client, b"resize 32767 1", None),
+    (Client, b"resize 1 32768", Some((1, BadNumber))),
+    (Client, b"resize 0 1", Some((1, BadNumber))),
+    (Client, b"\n\nresize 1", Some((3, BadWord))),
+    (Client, b"quit", Some((1, BadWord))),
+    (Turns, b"", None),
+    (Turns, b"join 1", Some((1, NoTurn))),
+    (Turns, b"join x", Some((1, NoTurn))),
+    (Turns, b"jump", Some((1, BadWord))),
+    (Turns, b"turn", Some((1, BadWord))),
+    (Turns, b"turn 18446744073709551615", None),
+    (Turns, b"turn 18446744073709551616", Some((1, BadNumber))),
+    (Turns, b"turn 5\nturn 5", None),
+    (Turns, b"\n# back\nturn 5\nturn 4", Some((4, MomentBack))),
+    (Turns, b"turn 0\njoin 1\njoin 2", None),
+    (Turns, b"turn 0\njoin 2", Some((2, WrongNumber))),
+    (Turns, b"turn 0\njoin 0", Some((2, WrongNumber))),
+    (Turns, b"turn 0\njoin 1\njoin 1", Some((3, WrongNumber))),
+    (Turns, b"turn 0\ngot 1 0aFF", None),
+    (Turns, b"turn 0\ngot 1 -", Some((2, BadHex))),
+    (Turns, b"turn 0\ngot 1 0", Some((2, BadHex))),
+    (Turns, b"turn 0\ngot 0 00", Some((2, UnknownConnection))),
+    (Turns, b"turn 0\ngot 2 00", Some((2, UnknownConnection))),
+    (
+        Turns,
+        b"turn 0\nend 1\ngot 1 00",
+        Some((3, UnknownConnection)),
+    ),
+    (Turns, b"turn 0\nend 1\njoin 1\nroom 1 0", None),
+    (
+        Turns,
+        b"turn 0\nend 1\njoin 1\ngot 1 00",
+        Some((4, UnknownConnection)),
+    ),
+    (
+        Turns,
+        b"turn 0\nfail 1\nend 1",
+        Some((3, UnknownConnection)),
+    ),
+    (Turns, b"turn 0\nroom 2 5", Some((2, UnknownConnection))),
+    (
+        Turns,
+        b"turn 0\nroom 1 18446744073709551616",
+        Some((2, BadNumber)),
+    ),
+];
 
 fn with_screen(mut config: Config, name: &[u8]) -> Result<Config, Fail> {
     let name = ScreenName::read(name).ok_or("no name")?;
@@ -314,12 +283,6 @@ fn with_screen(mut config: Config, name: &[u8]) -> Result<Config, Fail> {
         config.add_screen(name)?;
     }
     Ok(config)
-}
-
-/// The screens desk and pad.
-fn screens(alloc: Global) -> Result<Config, Fail> {
-    let config = with_screen(Config::new(alloc), b"desk")?;
-    with_screen(config, b"pad")
 }
 
 fn refusal<T: Drop>(read: Result<T, TextFault>) -> Result<Option<(u32, TextKind)>, Fail> {
@@ -343,90 +306,13 @@ fn verdict(
     }
 }
 
-fn check(rt: &impl Abort, alloc: Global, config: &Config, rows: &[Row]) -> Result<(), Fail> {
-    for row in rows {
-        let found = verdict(alloc, row.0, row.1, config)?;
-        assert_eq!(rt; found, row.2);
-    }
-    Ok(())
-}
-
 #[test]
 fn each_text_has_its_first_bad_line(rt: HostRuntime) -> Result<(), Fail> {
-    let config = screens(rt.alloc())?;
-    check(&rt, rt.alloc(), &config, &first_lines())?;
-    check(&rt, rt.alloc(), &config, &keys_and_pauses())?;
-    check(&rt, rt.alloc(), &config, &pointers_and_clipboards())?;
-    check(&rt, rt.alloc(), &config, &client_scripts())?;
-    check(&rt, rt.alloc(), &config, &turns())?;
-    check(&rt, rt.alloc(), &config, &connections())
-}
-
-#[test]
-fn limits_are_met(rt: HostRuntime) -> Result<(), Fail> {
-    let alloc = rt.alloc();
-    let config = screens(alloc)?;
-    let mut empty = vec![in alloc; b'\n'; 1_000_000]?;
-    assert_eq!(rt; verdict(alloc, Client, &empty, &config)?, None);
-    empty.push(b'\n')?;
-    assert_eq!(rt;
-        verdict(alloc, Client, &empty, &config)?,
-        Some((1_000_001, TooLong))
-    );
-    assert_eq!(rt;
-        verdict(alloc, Turns, &empty, &config)?,
-        Some((1_000_001, TooLong))
-    );
-    assert_eq!(rt;
-        verdict(alloc, Server, &empty, &config)?,
-        Some((1_000_001, TooLong))
-    );
-    let mut copy = Vec::from_slice(alloc, b"copy 0 ")?;
-    for _ in 0..4_194_304 {
-        copy.extend_from_slice(b"aF")?;
+    let config = with_screen(Config::new(rt.alloc()), b"desk")?;
+    let config = with_screen(config, b"pad")?;
+    for (which, text, bad) in &ROWS {
+        let found = verdict(rt.alloc(), *which, text, &config)?;
+        assert_eq!(rt; found, *bad);
     }
-    assert_eq!(rt; verdict(alloc, Client, &copy, &config)?, None);
-    copy.extend_from_slice(b"00")?;
-    assert_eq!(rt; verdict(alloc, Client, &copy, &config)?, Some((1, BadHex)));
-    Ok(())
-}
-
-#[test]
-fn lines_have_their_words(rt: HostRuntime) -> Result<(), Fail> {
-    let alloc = rt.alloc();
-    let config = screens(alloc)?;
-    let script = read_script(
-        alloc,
-        b"primary pad 800 600\nsleep 7\nawait desk\nkey down 97 38\nkey repeat 2 38\nkey up 38\n\
-        button down 3\nbutton up 3\nmotion -5 6\nwheel 0 -120\nsaver on\nsaver off\ncopy 1 0aF0\nquit",
-        &config,
-    )?;
-    assert_eq!(rt;
-        (script.primary(), script.w(), script.h()),
-        (ScreenNo(1), 800, 600)
-    );
-    let lines = script.lines();
-    let told = format!(in alloc; "{lines:?}")?;
-    assert_eq!(rt;
-        told.as_str(),
-        "[Sleep(7), Await(ScreenNo(0)), KeyDown { id: KeyId(97), button: Button(38) }, KeyRepeat { count: 2, button: Button(38) }, KeyUp(Button(38)), ButtonDown(MouseButton(3)), ButtonUp(MouseButton(3)), Motion { dx: -5, dy: 6 }, Wheel { x: 0, y: -120 }, Saver(true), Saver(false), Copy { clip: Selection, bytes: Octets { bytes: [10, 240] } }, Quit]"
-    );
-    let client = read_client_script(alloc, b"sleep 7\ncopy 0 61\nresize 640 480")?;
-    let lines = client.lines();
-    let told = format!(in alloc; "{lines:?}")?;
-    assert_eq!(rt;
-        told.as_str(),
-        "[Sleep(7), Copy { clip: Clipboard, bytes: Octets { bytes: [97] } }, Resize { w: 640, h: 480 }]"
-    );
-    let trace = read_trace(
-        alloc,
-        b"turn 3\njoin 1\ngot 1 61\nroom 1 9\nend 1\njoin 2\nfail 2",
-    )?;
-    let lines = trace.lines();
-    let told = format!(in alloc; "{lines:?}")?;
-    assert_eq!(rt;
-        told.as_str(),
-        "[Turn(3), Join(1), Got { connection: 1, bytes: Octets { bytes: [97] } }, Room { connection: 1, room: 9 }, End(1), Join(2), Fail(2)]"
-    );
     Ok(())
 }
