@@ -10,7 +10,7 @@ use Rattle.message_codec.specs.Verdicts.{Verdict}
 use Rattle.message_reader.specs.declared.reader.BadFrame.{BadFrame}
 use Rattle.message_reader.specs.Roles.{reader_of}
 use Rattle.message_reader.specs.ReaderParts.{ReaderParts}
-use Rattle.message_reader.specs.Representation.{Represents, pending_at}
+use Rattle.message_reader.specs.Representation.{Represents, IsPending}
 use Rattle.message_reader.specs.Steps.{Extends, partial_at, GivesMessage, GivesNone}
 use Rattle.message_reader.specs.Endings.{Outcome, Stopped, Failed, outcome}
 use Rattle.message_reader.proofs.Completing.{partial_is}
@@ -177,7 +177,7 @@ fresh_client r p represents fine shows = record {
 pub cleared : (r : ReaderParts) (p p' : Printer) (ended : Option ClientEnd) (stream : List ℕ) (messages : List Msg) (front : List ℕ) → Clears p p' → Kept r p ended stream messages front → Kept r p' ended stream messages (front ++ p.lines.items)
 cleared r p p' ended stream messages front clears k = record { verdict = k.verdict; heard = k.heard; shows = clears (client messages) front k.shows; open_at = k.open_at; total = k.total }
 
-pub pending_is : (r : ReaderParts) (p : Printer) (ended : Option ClientEnd) (stream : List ℕ) (messages : List Msg) (front : List ℕ) (found : Option ℕ) → ended ≡ None → (k : Kept r p ended stream messages front) → ((stream : List ℕ) (messages : List Msg) → (h : Represents r stream messages) → found ≡ pending_at r.bad (length (frames_of messages)) h.rest) → found ≡ partial_at k.verdict
+pub pending_is : (r : ReaderParts) (p : Printer) (ended : Option ClientEnd) (stream : List ℕ) (messages : List Msg) (front : List ℕ) (found : Option ℕ) → ended ≡ None → (k : Kept r p ended stream messages front) → IsPending r found → found ≡ partial_at k.verdict
 pending_is r p ended stream messages front found none k is = partial_is r (reader_of r.role) stream k.verdict (k.open_at none) found is
 
 pub grows : (core new : ClientCore) (answer : Result (Option ClientEnd) OutOfMemory) (piece : List ℕ) → core.done ≡ None → new.done ≡ end_after answer → Takes core.reader new.reader core.printer new.printer answer piece → Grows core new piece

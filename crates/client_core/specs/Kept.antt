@@ -8,6 +8,7 @@ use Rattle.message_codec.specs.Verdicts.{Verdict}
 use Rattle.message_reader.specs.Roles.{reader_of}
 use Rattle.message_reader.specs.ReaderParts.{ReaderParts}
 use Rattle.message_reader.specs.Representation.{IsOpen}
+use Rattle.message_reader.specs.Steps.{partial_at}
 use Rattle.held_inputs.specs.Line.{line_of}
 use Rattle.held_inputs.specs.Balanced.{Balanced, ClearAtLeaves}
 use Rattle.client_core.specs.declared.client_end.ClientEnd.{ClientEnd}
@@ -55,6 +56,10 @@ Heeds place m old new (Err memory) = ShowsOn old new
 pub record Takes (r r' : ReaderParts) (p p' : Printer) (answer : Result (Option ClientEnd) OutOfMemory) (piece : List ℕ) : Type 0 where
   pub role : r'.role ≡ r.role
   pub hears : (stream : List ℕ) (messages : List Msg) (front : List ℕ) → Kept r p None stream messages front → (more : List Msg) × Kept r' p' (end_after answer) (stream ++ piece) (messages ++ more) front
+
+-- a frame is there in part, as the verdict has it
+abbrev pub IsPartial : ClientCore → Option ℕ → Type 0
+IsPartial core found = (stream : List ℕ) (messages : List Msg) (front : List ℕ) → (s : Stands core stream messages front) → found ≡ partial_at s.verdict
 
 -- the lines were cleared
 abbrev pub ClearsLines : ClientCore → ClientCore → Type 0

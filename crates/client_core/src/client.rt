@@ -1,7 +1,6 @@
 //! The client.
 
-ghost use Rattle.std.specs.Prelude.{◌≡◌, ◌≢◌, ◌+◌, ◌≤◌, ◌^◌, ◌<◌, [], List, ℕ, Some, None, IsSome, OnErr, OnOk, length, unwrap_or};
-ghost use Rattle.message_codec.specs.declared.messages.Msg.{Msg as Message};
+ghost use Rattle.std.specs.Prelude.{◌≡◌, ◌≢◌, ◌+◌, ◌≤◌, ◌^◌, ◌<◌, [], Some, None, IsSome, OnErr, OnOk, length, unwrap_or};
 
 use crate::client_end::ClientEnd;
 use crate::hearing::hear_piece;
@@ -21,8 +20,7 @@ pub struct ClientCore {
 }
 
 impl ClientCore {
-    ghost use Rattle.message_reader.specs.Steps.{partial_at};
-    ghost use Rattle.client_core.specs.Kept.{Stands, Grows, ClearsLines, EndsReleased, lines_in};
+    ghost use Rattle.client_core.specs.Kept.{Stands, Grows, IsPartial, ClearsLines, EndsReleased, lines_in};
 
     /// Creates the client of injection: it hears every message of a server, sends nothing, and no moment
     /// counts. It takes no memory yet.
@@ -79,8 +77,7 @@ impl ClientCore {
     /// Returns the offset of a frame of which some bytes have come and not all. `None` if there is none,
     /// or if the client is done.
     pub fn pending(&self) -> Option<u64>
-        ensures goes { self.now.done ≡ None → (stream : List ℕ) (messages : List Message) (front : List ℕ)
-            → (s : Stands self.now stream messages front) → result ≡ partial_at s.verdict }
+        ensures goes { self.now.done ≡ None → IsPartial self.now result }
         ensures over { IsSome self.now.done → result ≡ None }
     {
         match self.done {
@@ -100,7 +97,8 @@ impl ClientCore {
     pub fn clear_lines(&mut self)
         ensures clears { ClearsLines self.old self.new }
         ensures empty { lines_in self.new ≡ [] }
-        ensures rest { self.new ≡ record self.old { printer = self.new.printer } }
+        ensures reader { self.new.reader ≡ self.old.reader }
+        ensures done { self.new.done ≡ self.old.done }
     {
         self.printer.clear_lines();
     }
@@ -111,7 +109,7 @@ impl ClientCore {
         ensures done { self.new.done ≡ Some (unwrap_or self.old.done why) }
         ensures released { EndsReleased self.old result }
         ensures lines { lines_in self.new ≡ lines_in self.old }
-        ensures rest { self.new ≡ record self.old { printer = self.new.printer; done = self.new.done } }
+        ensures reader { self.new.reader ≡ self.old.reader }
         ensures bound { length result ≤ 13824 }
     {
         self.done = Some(self.done.unwrap_or(why));

@@ -11,7 +11,7 @@ use Rattle.message_codec.proofs.OneVerdict.{all_good-append}
 use Rattle.message_reader.specs.declared.reader.BadFrame.{BadFrame}
 use Rattle.message_reader.specs.Roles.{reader_of}
 use Rattle.message_reader.specs.ReaderParts.{ReaderParts}
-use Rattle.message_reader.specs.Representation.{Represents, IsOpen, pending_at}
+use Rattle.message_reader.specs.Representation.{Represents, IsOpen, pending_at, IsPending}
 use Rattle.message_reader.specs.Steps.{partial_at}
 use Rattle.message_reader.proofs.Stepping.{bytes-append}
 
@@ -59,7 +59,7 @@ unfed r stream piece messages small h =
     completes (reader_of r.role) messages (h.rest ++ piece) (stream ++ piece) h.good (bytes-append h.rest piece rest small) (ap (λ (t : List ℕ). t ++ piece) h.stream_is ∙ append_assoc (frames_of messages) h.rest piece)
 
 -- what is pending after the messages of a verdict is what is left of it
-pub partial_is : (r : ReaderParts) (reader : Reader) (stream : List ℕ) (v : Verdict reader stream) → IsOpen r stream v.messages → (found : Option ℕ) → ((stream : List ℕ) (messages : List Msg) → (h : Represents r stream messages) → found ≡ pending_at r.bad (length (frames_of messages)) h.rest) → found ≡ partial_at v
+pub partial_is : (r : ReaderParts) (reader : Reader) (stream : List ℕ) (v : Verdict reader stream) → IsOpen r stream v.messages → (found : Option ℕ) → IsPending r found → found ≡ partial_at v
 partial_is r reader stream v at found is =
     let h = at.represents in
     let n : ℕ = length (frames_of v.messages) in

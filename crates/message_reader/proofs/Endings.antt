@@ -1,9 +1,9 @@
 -- Messages with others after them, up to the first that ends something.
-use Rattle.std.proofs.Common.{◌≡◌, true, cond, List, [], ◌∷◌, ◌++◌, Option, Some, None, refl, sym, ap, ◌∙◌}
+use Rattle.std.proofs.Common.{◌≡◌, Bool, true, false, cond, List, [], ◌∷◌, ◌++◌, Option, Some, None, refl, ap, ◌∙◌}
 use Rattle.std.specs.Prelude.{is_some}
 use Rattle.std.specs.Option.{option_or}
 use Rattle.message_codec.specs.declared.messages.Msg.{Msg}
-use Rattle.message_reader.specs.Endings.{before_end, ending}
+use Rattle.message_reader.specs.Endings.{before_end, ending, IsFront}
 
 -- no message ends it: neither the first nor a later one
 first_goes : {A : Type 0} (o p : Option A) → option_or o p ≡ None → o ≡ None
@@ -36,6 +36,15 @@ pub before_end-all : {A : Type 0} (ends : Msg → Option A) (ms : List Msg) → 
 before_end-all ends [] none = refl
 before_end-all ends (m ∷ ms) none =
     ap (λ o. cond (is_some o) [] (m ∷ before_end ends ms)) (first_goes (ends m) (ending ends ms) none) ∙ ap (λ (t : List Msg). m ∷ t) (before_end-all ends ms (later_go (ends m) (ending ends ms) none))
+
+-- they are the first ones
+with_first : (stops : Bool) (m : Msg) (front ms : List Msg) → IsFront front ms → IsFront (cond stops [] (m ∷ front)) (m ∷ ms)
+with_first true m front ms is = (m ∷ ms, refl)
+with_first false m front ms (more, all) = (more, ap (λ (t : List Msg). m ∷ t) all)
+
+pub before_end-front : {A : Type 0} (ends : Msg → Option A) (ms : List Msg) → IsFront (before_end ends ms) ms
+before_end-front ends [] = ([], refl)
+before_end-front ends (m ∷ ms) = with_first (is_some (ends m)) m (before_end ends ms) ms (before_end-front ends ms)
 
 -- one more message doesn't end it
 pub ending-last : {A : Type 0} (ends : Msg → Option A) (ms : List Msg) (m : Msg) → ending ends ms ≡ None → ends m ≡ None → ending ends (ms ++ m ∷ []) ≡ None

@@ -1,8 +1,7 @@
 -- What a framer answers of the front of its rest.
-use Rattle.std.proofs.Common.{◌≡◌, ℕ, ◌+◌, ◌^◌, ◌<◌, ◌≤◌, List, ◌++◌, length, drop, sym, ap, ◌∙◌, arith}
+use Rattle.std.proofs.Common.{◌≡◌, ℕ, ◌+◌, ◌<◌, ◌≤◌, List, ◌++◌, length, drop, sym, ap, ◌∙◌, arith}
 use Rattle.std.specs.Int.{w32, to_be_bytes}
-use Rattle.std.specs.Borrow.{Bor}
-use Rattle.std.proofs.lemmas.List.{length-append, length-drop}
+use Rattle.std.proofs.lemmas.List.{length-append}
 use Rattle.wire_frames.specs.declared.framer.FrameStep.{FrameStep}
 use Rattle.wire_frames.specs.declared.framer.FrameStep.TheVariants.{Frame, More, TooLong}
 use Rattle.wire_frames.specs.Framing.{frame}

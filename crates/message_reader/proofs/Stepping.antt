@@ -1,17 +1,16 @@
 -- The steps of a reader, over what it keeps.
-use Rattle.std.proofs.Common.{◌≡◌, ℕ, ◌+◌, ◌<◌, ◌≤◌, Bool, true, false, cond, List, [], ◌∷◌, ◌++◌, length, drop, get_or, Option, Some, None, zero, suc, refl, sym, ap, subst, ◌∙◌, append_assoc, arith}
-use Rattle.std.specs.List.{AllByRecursion}
+use Rattle.std.proofs.Common.{◌≡◌, ℕ, ◌+◌, Bool, true, false, cond, List, [], ◌∷◌, ◌++◌, length, drop, Option, Some, None, zero, suc, refl, sym, ap, subst, ◌∙◌, append_assoc, arith}
 use Rattle.std.specs.Option.{option_map}
 use Rattle.std.proofs.lemmas.List.{length-append}
 use Rattle.share_base.specs.declared.reason.Reason.{Reason}
 use Rattle.share_base.specs.declared.reason.Reason.TheVariants as reason
 use Rattle.wire_frames.specs.Framing.{frame, IsPartial, IsTooLong}
-use Rattle.wire_frames.specs.Framers.{FramerParts, fed, moved}
+use Rattle.wire_frames.specs.Framers.{FramerParts, fed}
 use Rattle.wire_frames.specs.Steps.{IsFirst}
 use Rattle.wire_frames.proofs.First.{IsBytes}
 use Rattle.message_codec.specs.declared.messages.Msg.{Msg}
 use Rattle.message_codec.specs.declared.faults.BadBody.{BadBody}
-use Rattle.message_codec.specs.Spelling.{body_of, Spells}
+use Rattle.message_codec.specs.Spelling.{Spells}
 use Rattle.message_codec.specs.Refusals.{Refuses}
 use Rattle.message_codec.specs.Reasons.{reason_of}
 use Rattle.message_codec.specs.Streams.{AreBytes, frame_of, frames_of, Reader, IsGood, AllGood}

@@ -1,5 +1,5 @@
 -- A reader between two steps: the stream that it was fed, and the messages of it that it gave.
-use Rattle.std.specs.Prelude.{◌≡◌, ℕ, false, List, [], ◌∷◌, ◌++◌, length, Option, Some, None}
+use Rattle.std.specs.Prelude.{◌≡◌, ℕ, List, [], ◌∷◌, ◌++◌, length, Option, Some, None}
 use Rattle.message_codec.specs.declared.messages.Msg.{Msg}
 use Rattle.message_codec.specs.Streams.{AreBytes, frames_of, AllGood}
 use Rattle.message_codec.specs.Verdicts.{IsBad}
@@ -33,3 +33,6 @@ abbrev pub pending_at : Option BadFrame → ℕ → List ℕ → Option ℕ
 pending_at (Some bad) place rest = None
 pending_at None place [] = None
 pending_at None place (byte ∷ bytes) = Some place
+
+abbrev pub IsPending : ReaderParts → Option ℕ → Type 0
+IsPending r found = (stream : List ℕ) (messages : List Msg) → (h : Represents r stream messages) → found ≡ pending_at r.bad (length (frames_of messages)) h.rest

@@ -1,5 +1,5 @@
 -- Which messages may stand where, and how long a body may be, for each role of a reader.
-use Rattle.std.specs.Prelude.{ℕ, ◌≤◌, Bool, true, false, not, ◌||◌, List, [], ◌∷◌}
+use Rattle.std.specs.Prelude.{◌≡◌, ℕ, ◌≤◌, Bool, true, false, not, ◌||◌, List, [], ◌∷◌}
 use Rattle.std.proofs.Common.{lit≤}
 use Rattle.message_codec.specs.declared.messages.End.TheVariants as ends
 use Rattle.message_codec.specs.declared.messages.Msg.{Msg}
@@ -56,7 +56,16 @@ client = record {
   takes = first_then (λ m. is_hello m || is_refusal m) (λ m. not (is_hello m));
 }
 
+-- the reader in that role
 abbrev pub reader_of : Role → Reader
 reader_of role.Server = server
 reader_of role.Client = client
 reader_of (role.Observer end) = plain end
+
+-- so many bytes may the next body have, where messages came before or not
+abbrev pub IsLimit : Role → Bool → ℕ → Type 0
+IsLimit r begun limit = (before : List Msg) → begun ≡ has_begun before → limit ≡ (reader_of r).limit before
+
+-- whether the message may stand next
+abbrev pub MayStand : Role → Bool → Msg → Bool → Type 0
+MayStand r begun m answer = (before : List Msg) → begun ≡ has_begun before → answer ≡ (reader_of r).takes before m

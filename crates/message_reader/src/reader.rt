@@ -1,9 +1,8 @@
 //! The reader.
 
-ghost use Rattle.std.specs.Prelude.{◌≡◌, ◌+◌, ◌^◌, ◌<◌, [], List, ℕ, None, IfOk, OnOk, OnErr, length};
-ghost use Rattle.message_codec.specs.declared.messages.Msg.{Msg as Message};
-ghost use Rattle.message_codec.specs.Streams.{frames_of};
-ghost use Rattle.message_reader.specs.Representation.{Represents, pending_at};
+ghost use Rattle.std.specs.Prelude.{◌≡◌, ◌+◌, ◌^◌, ◌<◌, [], None, IfOk, OnOk, OnErr, length};
+ghost use Rattle.message_reader.specs.ReaderParts.{with_bad};
+ghost use Rattle.message_reader.specs.Representation.{Represents, IsPending};
 ghost use Rattle.message_reader.specs.Steps.{Extends, Gives};
 
 use crate::role::Role;
@@ -58,13 +57,17 @@ impl Model for MessageReader {
 
     ghost Value = { ReaderParts };
 
-    ghost use Rattle.std.specs.Prelude.{◌≡◌, ◌+◌, ◌≤◌, List, false, length};
-    ghost use Rattle.message_codec.specs.declared.messages.Msg.{Msg as Message};
-    ghost use Rattle.message_reader.specs.Roles.{has_begun, reader_of};
+    ghost use Rattle.message_reader.specs.Soundness.{IsSound};
 
-    ghost view = { λ r. record { role = r.role; total = r.total; begun = r.begun; framer = r.framer; bad = r.bad } };
+    ghost view = { λ r. record {
+      role = r.role;
+      total = r.total;
+      begun = r.begun;
+      framer = r.framer;
+      bad = r.bad;
+    } };
 
-    ghost invariant = { λ r. (r.framer.over ≡ false) × (r.framer.limit ≤ 4194304) × (r.framer.given + length r.framer.rest ≤ r.total) × ((before : List Message) → r.begun ≡ has_begun before → r.framer.limit ≡ (reader_of r.role).limit before) };
+    ghost invariant = { λ r. IsSound r.role r.begun r.total r.framer };
 }
 
 impl MessageReader {
@@ -132,7 +135,7 @@ impl MessageReader {
     /// Returns the offset of the first byte that is part of no message given: after `More`, that of a
     /// partly received frame. `None` if there is no such byte, and after a bad frame.
     pub fn pending(&self) -> Option<u64>
-        ensures { (stream : List ℕ) (messages : List Message) → (r : Represents self.now stream messages) → result ≡ pending_at self.now.bad (length (frames_of messages)) r.rest }
+        ensures { IsPending self.now result }
     {
         if let Some(_) = self.bad {
             return None;
@@ -146,7 +149,7 @@ impl MessageReader {
 
     // Keeps the bad frame, and gives it.
     fn refuse(&mut self, place: u64, reason: Reason) -> ReadStep
-        ensures bad { self.new ≡ record self.old { bad = Some (record { place = place; reason = reason }) } }
+        ensures bad { self.new ≡ with_bad self.old place reason }
         ensures step { result ≡ ReadStep.Bad (record { place = place; reason = reason }) }
     {
         let bad = BadFrame { place, reason };

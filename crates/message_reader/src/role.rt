@@ -1,8 +1,7 @@
 //! What a reader expects of a stream.
 
-ghost use Rattle.std.specs.Prelude.{◌≡◌, ◌≤◌, List};
-ghost use Rattle.message_codec.specs.declared.messages.Msg.{Msg as Message};
-ghost use Rattle.message_reader.specs.Roles.{has_begun, reader_of, is_hello, is_answer, is_refusal};
+ghost use Rattle.std.specs.Prelude.{◌≡◌, ◌≤◌};
+ghost use Rattle.message_reader.specs.Roles.{reader_of, is_hello, is_answer, is_refusal, IsLimit, MayStand};
 
 use message_codec::{End, Msg};
 use wire_frames::BODY_LIMIT;
@@ -58,7 +57,7 @@ impl Role {
 
     /// Returns how many bytes the next body may have, before the first message or after it.
     pub fn limit(self, begun: bool) -> u32
-        ensures value { (before : List Message) → begun ≡ has_begun before → result ≡ (reader_of self).limit before }
+        ensures value { IsLimit self begun result }
         ensures bound { result ≤ BODY_LIMIT }
     {
         match self {
@@ -69,7 +68,7 @@ impl Role {
 
     /// Returns whether the message may stand next, before the first message or after it.
     pub fn takes(self, begun: bool, msg: &Msg) -> bool
-        ensures { (before : List Message) → begun ≡ has_begun before → result ≡ (reader_of self).takes before msg.now }
+        ensures { MayStand self begun msg.now result }
     {
         match self {
             Role::Server => is_hello_answer(msg) != begun,

@@ -1,6 +1,6 @@
 -- The client of injection: how its calls serve a command.
-use Rattle.std.proofs.Common.{◌≡◌, ℕ, List, ◌++◌, length, Option, Some, None, refl, sym, ap, subst, ◌∙◌}
-use Rattle.std.specs.List.{flat_map}
+use Rattle.std.proofs.Common.{◌≡◌, ℕ, List, [], ◌∷◌, ◌++◌, length, Option, Some, None, refl, sym, ap, subst, ◌∙◌}
+use Rattle.std.specs.List.{flat_map, AllByRecursion}
 use Rattle.std.specs.Option.{option_map}
 use Rattle.std.proofs.lemmas.Grind.{flat_map-append}
 use Rattle.std.proofs.lemmas.List.{append_cancel_left}
@@ -8,24 +8,29 @@ use Rattle.share_base.specs.Told.{after}
 use Rattle.share_base.specs.Reading.{SourceState}
 use Rattle.share_base.specs.Writing.{SinkState}
 use Rattle.message_codec.specs.declared.messages.Msg.{Msg}
+use Rattle.message_codec.specs.Streams.{plain}
+use Rattle.message_codec.specs.Verdicts.{Verdict}
 use Rattle.message_reader.specs.Roles.{reader_of}
-use Rattle.message_reader.specs.Steps.{partial_at}
+use Rattle.message_reader.specs.Endings.{before_end, IsFront}
+use Rattle.message_reader.proofs.Endings.{before_end-front}
 use Rattle.held_inputs.specs.Line.{line_of}
 use Rattle.held_inputs.specs.Down.{releases}
 use Rattle.client_core.specs.declared.client_end.ClientEnd.{ClientEnd}
 use Rattle.client_core.specs.declared.client.ClientCore.{ClientCore}
-use Rattle.client_core.specs.Ends.{IsHeard}
+use Rattle.client_core.specs.Ends.{stop_of, IsHeard}
 use Rattle.client_core.specs.Hearing.{client, all_lines}
-use Rattle.client_core.specs.Kept.{Stands, Grows, ClearsLines, EndsReleased, lines_in}
+use Rattle.client_core.specs.Kept.{Grows, IsPartial, ClearsLines, EndsReleased, lines_in}
 use Rattle.client_core.proofs.Screens as screens
+use Rattle.client_core.proofs.ScreenRanges.{FieldsFit, fields-fit, fit-all_lines}
 use Rattle.synergy_share.specs.declared.status.Status.{Status}
 use Rattle.synergy_share.specs.declared.status.Status.TheVariants as status
 use Rattle.synergy_share.specs.Ways.{Way, injecting}
 use Rattle.synergy_share.specs.Endings.{status_of, decided, printed_of}
 use Rattle.synergy_share.specs.Cores.{IsDone, Feeds, Clears, EndsHere, EndsInput, AddsLast}
-use Rattle.synergy_share.specs.Commands.{Writes, Reads, Balances, Releases}
+use Rattle.synergy_share.specs.Commands.{counted, Writes, Reads, Balances, Releases}
 use Rattle.synergy_share.specs.Injecting.{Injected, done_so}
 use Rattle.synergy_share.proofs.InputEnds.{end_for, ends_so}
+use Rattle.synergy_share.proofs.Runs.{front_of_all}
 
 -- a client that goes on has no end
 pub goes_on : (done : Option ClientEnd) → option_map status_of done ≡ None → done ≡ None
@@ -45,7 +50,7 @@ clears core new same cleared w stream messages taken k = record {
 }
 
 -- the stream ends
-pub ends_input : (core : ClientCore) (found : Option ℕ) (end : Status) → core.done ≡ None → ((stream : List ℕ) (messages : List Msg) (front : List ℕ) → (s : Stands core stream messages front) → found ≡ partial_at s.verdict) → end ≡ end_for injecting found → EndsInput Injected core end
+pub ends_input : (core : ClientCore) (found : Option ℕ) (end : Status) → core.done ≡ None → IsPartial core found → end ≡ end_for injecting found → EndsInput Injected core end
 ends_input core found end none pending is w stream messages taken k =
     let s = k.stands in
     let v = s.verdict in
@@ -67,19 +72,32 @@ adds_last core result released w stream messages taken k =
 
 -- ---- what was written is balanced
 
-balances : (messages : List Msg) (old new : SinkState) → new.taken ≡ after old.taken (flat_map line_of (client messages).lines ++ flat_map line_of (releases (client messages).lines)) → Balances old new
-balances messages old new written =
+-- the printed messages are among the first of the verdict's, so their fields are in range
+all-front : {A : Type 0} (P : A → Type 0) (xs ys : List A) → AllByRecursion P (xs ++ ys) → AllByRecursion P xs
+all-front P [] ys all = tt
+all-front P (x ∷ xs) ys all = (all.0, all-front P xs ys all.1)
+
+printed_fit : (stream : List ℕ) (v : Verdict (plain injecting.sender) stream) (messages : List Msg) → IsFront messages (printed_of injecting v) → AllByRecursion FieldsFit messages
+printed_fit stream v messages (more, all) =
+    let (later, whole) = before_end-front stop_of v.messages in
+    let good : AllByRecursion FieldsFit v.messages = fields-fit (plain injecting.sender) [] v.messages v.good in
+    let heard = all-front FieldsFit (before_end stop_of v.messages) later (subst (AllByRecursion FieldsFit) whole good) in
+    all-front FieldsFit messages more (subst (AllByRecursion FieldsFit) all heard)
+
+balances : (messages : List Msg) (old new : SinkState) → AllByRecursion FieldsFit messages → new.taken ≡ after old.taken (flat_map line_of (client messages).lines ++ flat_map line_of (releases (client messages).lines)) → Balances old new
+balances messages old new fit written =
     let r = screens.released messages (flat_map line_of (all_lines messages)) refl in
     record {
       lines = all_lines messages;
       written = written ∙ ap (after old.taken) (sym (flat_map-append line_of (client messages).lines (releases (client messages).lines)));
+      fits = fit-all_lines messages fit;
       balanced = r.balanced;
       leaves = r.leaves;
     }
 
-by_end : (end : Status) (messages : List Msg) (old new : SinkState) → Writes injecting end messages old new → Releases end old new
-by_end status.WriteFault messages old new w = tt
-by_end _ messages old new w = balances messages old new w
+by_end : (end : Status) (messages : List Msg) (old new : SinkState) → AllByRecursion FieldsFit messages → Writes injecting end messages old new → Releases end old new
+by_end status.WriteFault messages old new fit w = tt
+by_end _ messages old new fit w = balances messages old new fit w
 
 pub releases_all : (end : Status) (input input' : SourceState) (old new : SinkState) → Reads injecting end input input' old new → Releases end old new
-releases_all end input input' old new r = by_end end r.messages old new r.writes
+releases_all end input input' old new r = by_end end r.messages old new (printed_fit (counted r.read) r.verdict r.messages (front_of_all end r.messages (printed_of injecting r.verdict) r.printed)) r.writes

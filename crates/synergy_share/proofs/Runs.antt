@@ -204,7 +204,7 @@ front_after written lines more t u v first second =
           ∙ ap (after t) (ap (λ (x : List ℕ). written ++ x) (sym same) ∙ sym (take-append-add written (lines ++ more) second.0) ∙ ap (take (length written + second.0)) (sym whole)),
     )
 
-front_of_all : (end : Status) (messages all : List Msg) → IsPrinted end messages all → IsFront messages all
+pub front_of_all : (end : Status) (messages all : List Msg) → IsPrinted end messages all → IsFront messages all
 front_of_all status.WriteFault messages all h = h
 front_of_all status.OutOfMemory messages all h = h
 front_of_all _ messages all h = ([], sym h ∙ sym (append-nil messages))

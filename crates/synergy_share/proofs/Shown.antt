@@ -14,7 +14,7 @@ use Rattle.message_reader.specs.declared.reader.BadFrame.{BadFrame}
 use Rattle.message_reader.specs.declared.role.Role.TheVariants as role
 use Rattle.message_reader.specs.Roles.{reader_of}
 use Rattle.message_reader.specs.ReaderParts.{ReaderParts}
-use Rattle.message_reader.specs.Representation.{Represents, pending_at}
+use Rattle.message_reader.specs.Representation.{Represents, IsPending}
 use Rattle.message_reader.specs.Steps.{Extends, GivesMessage, GivesNone}
 use Rattle.message_reader.specs.Endings.{Outcome, Failed, outcome}
 use Rattle.message_reader.proofs.Completing.{partial_is}
@@ -177,7 +177,7 @@ clears core lines none w stream messages taken k =
     }
 
 -- the stream ends
-pub ends_input : (core : ShowCore) (found : Option ℕ) (end : Status) → core.done ≡ None → ((stream : List ℕ) (messages : List Msg) → (h : Represents core.reader stream messages) → found ≡ pending_at core.reader.bad (length (frames_of messages)) h.rest) → end ≡ end_for (showing core.from) found → EndsInput Shown core end
+pub ends_input : (core : ShowCore) (found : Option ℕ) (end : Status) → core.done ≡ None → IsPending core.reader found → end ≡ end_for (showing core.from) found → EndsInput Shown core end
 ends_input core found end none pending is w stream messages taken k =
     let p = k.lists.prints in
     let v = p.verdict in

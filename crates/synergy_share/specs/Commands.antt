@@ -1,8 +1,9 @@
 -- What a command writes of the bytes that it reads, how it ends, and where it stops to read.
 use Rattle.std.specs.Prelude.{◌≡◌, ◌<◌, ◌≤◌, ℕ, List, ◌++◌, length, take, Option, Some, None, IfSome}
-use Rattle.std.specs.List.{flat_map}
+use Rattle.std.specs.List.{flat_map, AllByRecursion}
 use Rattle.held_inputs.specs.declared.line.Line.{Line}
 use Rattle.held_inputs.specs.Line.{line_of}
+use Rattle.held_inputs.specs.Ranges.{Fits}
 use Rattle.held_inputs.specs.Balanced.{Balanced, ClearAtLeaves}
 use Rattle.share_base.specs.Told.{before, after, NoneLeft, IsSet, NotSet}
 use Rattle.share_base.specs.Reading.{SourceState}
@@ -81,10 +82,11 @@ pub record Stops (w : Way) (input input' : SourceState) : Type 0 where
   pub verdict : Verdict (plain w.sender) earlier
   pub undecided : decided w verdict ≡ None
 
--- what was written are lines in which every key and every mouse button went up, one up for each down, and nothing was down where the cursor left
+-- what was written are lines within their ranges, so that the bytes are read as these lines alone, in which every key and every mouse button went up, one up for each down, and nothing was down where the cursor left
 pub record Balances (old new : SinkState) : Type 0 where
   pub lines : List Line
   pub written : new.taken ≡ after old.taken (flat_map line_of lines)
+  pub fits : AllByRecursion Fits lines
   pub balanced : Balanced lines
   pub leaves : ClearAtLeaves lines
 

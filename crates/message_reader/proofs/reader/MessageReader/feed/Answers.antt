@@ -1,4 +1,4 @@
-use Rattle.std.proofs.Common.{ℕ, ◌+◌, ◌∙◌, refl, ap, sym, subst, length, arith}
+use Rattle.std.proofs.Common.{◌+◌, ◌∙◌, refl, ap, sym, subst, length, arith}
 use Rattle.wire_frames.specs.Framers.{FramerParts}
 use Rattle.wire_frames.proofs.First.{IsBytes}
 use Rattle.message_reader.specs.declared.reader.MessageReader.TheInside.{Inside}
@@ -19,7 +19,7 @@ returns-clause-ok c =
     let fed : Fed c.match-self.self-inside = elim c.match-self.branch [
       | in-None+in_ok-feed w ↦
           let fed = w.in_ok-feed.ensures.ok in
-          let rest = ap (λ (f : FramerParts). f.rest) fed ∙ fed_rest was.framer piece c.self.invariant.0 in
+          let rest = ap (λ (f : FramerParts). f.rest) fed ∙ fed_rest was.framer piece c.self.invariant.fine in
           subst Fed (sym w.self-inside-is) (extends from _ piece small refl refl refl (ap (λ (f : FramerParts). f.given) fed) refl (λ none. rest))
       | in_default w ↦ subst Fed (sym w.self-inside-is) (extends from _ piece small refl refl refl refl refl (λ none. absurd (w.in_default.not-None none)))
     ] in

@@ -1,7 +1,5 @@
-use Rattle.std.proofs.Common.{ap}
-use Rattle.client_core.specs.declared.client.ClientCore.{ClientCore}
 use Rattle.synergy_share.proofs.Injection.{clears}
 use Rattle.synergy_share.proofs.inject_core.ClientCoreLineCore.clear_printed.Goals as goal
 
 pub returns-clause-clears : goal.returns-clause-clears
-returns-clause-clears c = clears c.args.self.now c.clear_lines.new.self (ap (λ (core : ClientCore). core.reader) c.clear_lines.ensures.rest) c.clear_lines.ensures.clears
+returns-clause-clears c = clears c.args.self.now c.clear_lines.new.self c.clear_lines.ensures.reader c.clear_lines.ensures.clears
