@@ -2,7 +2,7 @@
 """Fails if a document names a file that the repository does not have.
 
 A file is named in backticks or as the target of a link. It is looked up from the top, beside the document, in
-examples/, in crates/, and in each crate and its specs/.
+examples/, in crates/, and in each crate, its specs/ and its proofs/.
 """
 
 import pathlib
@@ -12,7 +12,7 @@ import sys
 TOP = pathlib.Path(__file__).resolve().parent.parent
 ENDINGS = "rt|antt|edit|py|rs|md|conf|bin|out|script|trace|txt"
 NAMED = re.compile(rf"`((?:[\w.-]+/)*[\w.-]+\.(?:{ENDINGS}))`|\]\(((?!http)[^)#]+)\)")
-PLACES = ("", "examples/", "crates/", "crates/*/", "crates/*/specs/")
+PLACES = ("", "examples/", "crates/", "crates/*/", "crates/*/specs/", "crates/*/proofs/")
 
 
 def is_there(document, name):

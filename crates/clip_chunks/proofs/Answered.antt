@@ -10,7 +10,7 @@ use Rattle.clip_chunks.specs.declared.took.Cause.TheVariants.{TooLarge, SeqChang
 use Rattle.clip_chunks.specs.Parts.{Part, part}
 use Rattle.clip_chunks.specs.Wholes.{size_of, EndsWhole}
 use Rattle.clip_chunks.specs.OpenRuns.{closes, whole_by, whole_at}
-use Rattle.clip_chunks.specs.Assemblies.{AssemblyParts, start_answer, chunk_answer, end_answer, answer, whole_in, IsAnswer, GivesWhole, IsRight, Answers}
+use Rattle.clip_chunks.specs.Assemblies.{AssemblyParts, start_answer, chunk_answer, end_answer, answer, whole_in, IsAnswer, GivesWhole, Answers}
 use Rattle.clip_chunks.proofs.EndedRuns.{ends_whole, whole_found}
 
 none_if : (b : Bool) (t u : Took) → whole_in t ≡ None → whole_in u ≡ None → whole_in (if b then t else u) ≡ None

@@ -4,7 +4,6 @@ use Rattle.std.specs.Fmt.{decimal}
 use Rattle.std.proofs.lemmas.List.{append_assoc, append-nil, map-append}
 use Rattle.std.proofs.lemmas.List.Concat.{flat_map-append}
 use Rattle.share_base.specs.declared.clip_id.ClipId.{ClipId}
-use Rattle.message_codec.specs.declared.clip_mark.ClipMark.{ClipMark}
 use Rattle.message_codec.specs.declared.clip_mark.ClipMark.TheVariants as mark
 use Rattle.message_codec.specs.Streams.{frame_of, frames_of}
 use Rattle.clip_chunks.specs.Parts.{Part, part, message_of}

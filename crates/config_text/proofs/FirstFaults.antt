@@ -15,7 +15,8 @@ use Rattle.config_text.specs.declared.words.Setting.{Setting}
 use Rattle.screen_config.specs.Configurations.{Configuration, screen_of}
 use Rattle.config_text.specs.Shapes.{RangeText, LinkText, SettingText}
 use Rattle.config_text.specs.Judging.{unless, or_fault, range_of, overlaps, known_screen, new_screen, new_alias, good_range, new_link, one_link_more, new_setting}
-use Rattle.screen_config.specs.Sound.{most_screens, most_aliases}
+use Rattle.share_base.specs.declared.screen_set.TheConstants.{MOST_SCREENS}
+use Rattle.screen_config.specs.declared.config.TheConstants.{MOST_ALIASES}
 use Rattle.config_text.specs.FaultLists.{fault_unless, range_given, range_faults, known_faults, screen_faults, alias_faults, link_faults, option_faults, setting_faults, first, refusal_of}
 
 step : {A : Type 0} (b : Bool) (k : ConfigKind) (left : ℕ) (f : Unit {0} → Result A Fault) (fs : List Fault) → refusal_of (f tt) ≡ first fs → refusal_of (unless b k left >>= f) ≡ first (fault_unless b k left ++ fs)
@@ -38,13 +39,13 @@ pub first_of_screen : (whole : ℕ) (c : Configuration) (name : Text) → refusa
 unfolding new_screen screen_faults
 first_of_screen whole c name =
     step (is_name name.text) kind.BadName name.left _ _
-    (step (is_none (screen_of c name.text)) kind.DuplicateScreen name.left _ _ (last (nat_lt (length c.screens) most_screens) kind.TooMany whole _))
+    (step (is_none (screen_of c name.text)) kind.DuplicateScreen name.left _ _ (last (nat_lt (length c.screens) MOST_SCREENS) kind.TooMany whole _))
 
 pub first_of_alias : (whole : ℕ) (c : Configuration) (screen : ℕ) (name : Text) → refusal_of (new_alias whole c screen name) ≡ first (alias_faults whole c name)
 unfolding new_alias alias_faults
 first_of_alias whole c screen name =
     step (is_name name.text) kind.BadName name.left _ _
-    (step (is_none (screen_of c name.text)) kind.DuplicateAlias name.left _ _ (last (nat_lt (length c.aliases) most_aliases) kind.TooMany whole _))
+    (step (is_none (screen_of c name.text)) kind.DuplicateAlias name.left _ _ (last (nat_lt (length c.aliases) MOST_ALIASES) kind.TooMany whole _))
 
 -- ---- links
 

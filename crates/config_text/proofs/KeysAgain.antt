@@ -9,8 +9,11 @@ use Rattle.share_base.proofs.ListTests.{all_parts}
 use Rattle.hotkey_rules.specs.declared.action.Action.{Action}
 use Rattle.hotkey_rules.specs.declared.action.Action.TheVariants as action
 use Rattle.hotkey_rules.specs.declared.rule.Rule.{Rule}
-use Rattle.hotkey_rules.specs.Rules.{rule_of, most}
-use Rattle.screen_config.specs.ActionKeys.{most_actions, most_action_keys, has_key, with_keys, key_in, keys_in, actions_in, action_keys, with_button}
+use Rattle.hotkey_rules.specs.Rules.{rule_of}
+use Rattle.hotkey_rules.specs.declared.rules.TheConstants.{MOST_RULES}
+use Rattle.screen_config.specs.ActionKeys.{has_key, with_keys, key_in, keys_in, actions_in, action_keys, with_button}
+use Rattle.screen_config.specs.declared.hotkeys.TheConstants.{MOST_ACTIONS}
+use Rattle.screen_config.specs.declared.action_keys.TheConstants.{MOST_ACTION_KEYS}
 use Rattle.config_text.specs.Hotkeys.{no_button}
 use Rattle.screen_config.specs.AddingHotkeys.{keys_with, has_room, next_rule}
 use Rattle.screen_config.specs.SoundHotkeys.{HasItsButton, AreHotkeys}
@@ -104,10 +107,10 @@ same_keys_up_to front rule = ap (λ (ids : List ℕ). with_keys (action_keys fro
 pub room_again : (count : ℕ) (front : List Rule) (rule : Rule) (more : List Rule) → AreHotkeys count (front ++ rule ∷ more) → has_room front (map bare rule.press ++ map bare rule.release) ≡ true
 unfolding has_room
 room_again count front rule more s =
-    let rules : length front < most = omega (arith, s.few, length-append front (rule ∷ more)) in
-    let keys : length (keys_with front (map bare rule.press ++ map bare rule.release)) ≤ most_action_keys =
+    let rules : length front < MOST_RULES = omega (arith, s.few, length-append front (rule ∷ more)) in
+    let keys : length (keys_with front (map bare rule.press ++ map bare rule.release)) ≤ MOST_ACTION_KEYS =
     omega (arith, s.few_keys, ap length (keys_are front rule more), longer (keys_up_to front rule) (keys_in (actions_in more)), ap length (same_keys_up_to front rule)) in
-    let many : length (actions_in front) + length (map bare rule.press ++ map bare rule.release) ≤ most_actions =
+    let many : length (actions_in front) + length (map bare rule.press ++ map bare rule.release) ≤ MOST_ACTIONS =
     omega (
       arith,
       s.few_actions,
@@ -117,8 +120,8 @@ room_again count front rule more s =
       ap length (bare_own rule),
       length-map (own rule) bare,
     ) in
-    and_from _ _ (and_from _ _ (lt-ltb (length front) most rules) (le-leb (length (keys_with front (map bare rule.press ++ map bare rule.release))) most_action_keys keys))
-    (le-leb (length (actions_in front) + length (map bare rule.press ++ map bare rule.release)) most_actions many)
+    and_from _ _ (and_from _ _ (lt-ltb (length front) MOST_RULES rules) (le-leb (length (keys_with front (map bare rule.press ++ map bare rule.release))) MOST_ACTION_KEYS keys))
+    (le-leb (length (actions_in front) + length (map bare rule.press ++ map bare rule.release)) MOST_ACTIONS many)
 
 -- and it is the same rule
 pub rule_again : (count : ℕ) (front : List Rule) (rule : Rule) (more : List Rule) → AreHotkeys count (front ++ rule ∷ more)

@@ -15,7 +15,8 @@ use Rattle.config_text.specs.declared.faults.Fault.{Fault}
 use Rattle.screen_config.specs.Configurations.{Configuration, screen_of}
 use Rattle.config_text.specs.Shapes.{RangeText, LinkText, SettingText}
 use Rattle.config_text.specs.Judging.{fault_at, range_of, link_of, overlaps}
-use Rattle.screen_config.specs.Sound.{most_screens, most_aliases}
+use Rattle.share_base.specs.declared.screen_set.TheConstants.{MOST_SCREENS}
+use Rattle.screen_config.specs.declared.config.TheConstants.{MOST_ALIASES}
 
 abbrev pub fault_unless : Bool → ConfigKind → ℕ → List Fault
 fault_unless true k left = []
@@ -31,12 +32,12 @@ known_faults c name = bad_name name ++ fault_unless (is_some (screen_of c name.t
 unfoldable pub screen_faults : ℕ → Configuration → Text → List Fault
 screen_faults whole c name =
     bad_name name ++ (fault_unless (is_none (screen_of c name.text)) kind.DuplicateScreen name.left
-    ++ fault_unless (nat_lt (length c.screens) most_screens) kind.TooMany whole)
+    ++ fault_unless (nat_lt (length c.screens) MOST_SCREENS) kind.TooMany whole)
 
 unfoldable pub alias_faults : ℕ → Configuration → Text → List Fault
 alias_faults whole c name =
     bad_name name ++ (fault_unless (is_none (screen_of c name.text)) kind.DuplicateAlias name.left
-    ++ fault_unless (nat_lt (length c.aliases) most_aliases) kind.TooMany whole)
+    ++ fault_unless (nat_lt (length c.aliases) MOST_ALIASES) kind.TooMany whole)
 
 -- ---- links
 

@@ -17,7 +17,8 @@ use Rattle.config_text.specs.declared.faults.Fault.{Fault}
 use Rattle.config_text.specs.declared.words.Setting.{Setting}
 use Rattle.screen_config.specs.Configurations.{Configuration, screen_of, with_screen, with_alias, with_link}
 use Rattle.config_text.specs.Shapes.{RangeText, LinkText, SettingText}
-use Rattle.screen_config.specs.Sound.{most_screens, most_aliases}
+use Rattle.share_base.specs.declared.screen_set.TheConstants.{MOST_SCREENS}
+use Rattle.screen_config.specs.declared.config.TheConstants.{MOST_ALIASES}
 
 abbrev pub fault_at : ConfigKind → ℕ → Fault
 fault_at k left = record { kind = k; left = left }
@@ -46,14 +47,14 @@ unfoldable pub new_screen : ℕ → Configuration → Text → Result Configurat
 new_screen whole c name = do
   _ ← unless (is_name name.text) kind.BadName name.left
   _ ← unless (is_none (screen_of c name.text)) kind.DuplicateScreen name.left
-  _ ← unless (nat_lt (length c.screens) most_screens) kind.TooMany whole
+  _ ← unless (nat_lt (length c.screens) MOST_SCREENS) kind.TooMany whole
   Ok (with_screen c name.text)
 
 unfoldable pub new_alias : ℕ → Configuration → ℕ → Text → Result Configuration Fault
 new_alias whole c screen name = do
   _ ← unless (is_name name.text) kind.BadName name.left
   _ ← unless (is_none (screen_of c name.text)) kind.DuplicateAlias name.left
-  _ ← unless (nat_lt (length c.aliases) most_aliases) kind.TooMany whole
+  _ ← unless (nat_lt (length c.aliases) MOST_ALIASES) kind.TooMany whole
   Ok (with_alias c name.text screen)
 
 -- ---- links

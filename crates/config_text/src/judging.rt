@@ -12,9 +12,9 @@ ghost use Rattle.config_text.specs.Seen.{link_text, maybe_range_text};
 use crate::faults::{ConfigKind, Fault, LineFault};
 use crate::shapes::{LinkText, RangeText};
 use crate::words::unless;
-use screen_config::Config;
-use screen_links::{Link, LinkFault, Range};
-use share_base::{ScreenName, ScreenNo};
+use screen_config::{Config, MOST_ALIASES};
+use screen_links::{Link, LinkFault, Range, SIDE_END};
+use share_base::{MOST_SCREENS, ScreenName, ScreenNo};
 use text_lines::Word;
 
 fn refusal<T>(kind: ConfigKind, left: usize) -> Result<T, LineFault>
@@ -29,12 +29,12 @@ fn good_range(range: Option<RangeText>) -> Result<Range, LineFault>
     ensures good { IfOk result IsGood }
 {
     match range {
-        None => Ok(Range { a: 0, b: 100 }),
+        None => Ok(Range { a: 0, b: SIDE_END }),
         Some(range) => {
             if range.a >= range.b {
                 return refusal(ConfigKind::BadRange, range.left);
             }
-            if range.b > 100 {
+            if range.b > u16::from(SIDE_END) {
                 return refusal(ConfigKind::BadRange, range.left);
             }
             Ok(Range {
@@ -75,7 +75,7 @@ pub(crate) fn new_screen(config: &mut Config, name: Word<'_>, whole: usize) -> R
         ConfigKind::DuplicateScreen,
         name.left,
     )?;
-    if config.count() >= 64 {
+    if config.count() >= MOST_SCREENS {
         return refusal(ConfigKind::TooMany, whole);
     }
     config.add_screen(kept)?;
@@ -103,7 +103,7 @@ pub(crate) fn new_alias(
         ConfigKind::DuplicateAlias,
         name.left,
     )?;
-    if config.aliases().len() >= 256 {
+    if config.aliases().len() >= MOST_ALIASES {
         return refusal(ConfigKind::TooMany, whole);
     }
     config.add_alias(kept, screen)?;

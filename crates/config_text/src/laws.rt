@@ -17,39 +17,34 @@ ghost use Rattle.config_text.specs.Shapes.{SettingText, LinkText, section_at, he
 ghost use Rattle.config_text.specs.Spelling.{SpellsSection, SpellsHeader, SpellsAlias, SpellsSetting, IsSection, IsHeader, IsAlias, IsSetting};
 ghost use Rattle.config_text.specs.SpellingLinks.{SpellsLink, IsLink, side_first};
 
-/// A line is read as `section: NAME` exactly where it is spelled so, and then as one name alone.
+/// A line is read as `section: NAME` if and only if it is spelled so.
 pub fn sections_are_spelled()
     ensures spelled { (xs : List ℕ) (name : Text) → section_at xs ≡ Ok name → SpellsSection xs name }
     ensures read { (xs : List ℕ) (name : Text) → SpellsSection xs name → section_at xs ≡ Ok name }
-    ensures one { (xs : List ℕ) (a b : Text) → SpellsSection xs a → SpellsSection xs b → a ≡ b }
 {}
 
-/// A line is read as `NAME:` exactly where it is spelled so, and then as one name alone.
+/// A line is read as `NAME:` if and only if it is spelled so.
 pub fn headers_are_spelled()
     ensures spelled { (xs : List ℕ) (name : Text) → header_at xs ≡ Ok name → SpellsHeader xs name }
     ensures read { (xs : List ℕ) (name : Text) → SpellsHeader xs name → header_at xs ≡ Ok name }
-    ensures one { (xs : List ℕ) (a b : Text) → SpellsHeader xs a → SpellsHeader xs b → a ≡ b }
 {}
 
-/// A line is read as an alias exactly where it is spelled so, and then as one alias alone.
+/// A line is read as an alias if and only if it is spelled so.
 pub fn aliases_are_spelled()
     ensures spelled { (xs : List ℕ) (name : Text) → alias_at xs ≡ Ok name → SpellsAlias xs name }
     ensures read { (xs : List ℕ) (name : Text) → SpellsAlias xs name → alias_at xs ≡ Ok name }
-    ensures one { (xs : List ℕ) (a b : Text) → SpellsAlias xs a → SpellsAlias xs b → a ≡ b }
 {}
 
-/// A line is read as `SIDE[(a,b)] = NAME[(c,d)]` exactly where it is spelled so, and then as one link alone.
+/// A line is read as `SIDE[(a,b)] = NAME[(c,d)]` if and only if it is spelled so.
 pub fn links_are_spelled()
     ensures spelled { (xs : List ℕ) (l : LinkText) → link_at xs ≡ Ok l → SpellsLink xs l }
     ensures read { (xs : List ℕ) (l : LinkText) → SpellsLink xs l → link_at xs ≡ Ok l }
-    ensures one { (xs : List ℕ) (a b : LinkText) → SpellsLink xs a → SpellsLink xs b → a ≡ b }
 {}
 
-/// A line is read as `KEY = VALUE` exactly where it is spelled so, and then as one key and value alone.
+/// A line is read as `KEY = VALUE` if and only if it is spelled so.
 pub fn settings_are_spelled()
     ensures spelled { (xs : List ℕ) (s : SettingText) → setting_at xs ≡ Ok s → SpellsSetting xs s }
     ensures read { (xs : List ℕ) (s : SettingText) → SpellsSetting xs s → setting_at xs ≡ Ok s }
-    ensures one { (xs : List ℕ) (a b : SettingText) → SpellsSetting xs a → SpellsSetting xs b → a ≡ b }
 {}
 
 /// Where a line isn't read as one of a form, its bytes before that place begin a line of the form, and
@@ -66,15 +61,6 @@ pub fn lines_stop_where_they_cannot_go_on()
 pub fn links_stop_where_they_cannot_go_on()
     ensures no_side { (xs : List ℕ) → side_first xs ≡ None → link_at xs ≡ Err (length xs) }
     ensures side { (xs : List ℕ) (s : Side) (left : ℕ) → side_first xs ≡ Some s → link_at xs ≡ Err left → StopsAt IsLink xs left }
-    ensures one_place { (xs : List ℕ) (a b : ℕ) → StopsAt IsLink xs a → StopsAt IsLink xs b → a ≡ b }
-{}
-
-/// A line stops to be one of a form at one place alone.
-pub fn lines_stop_at_one_place()
-    ensures section { (xs : List ℕ) (a b : ℕ) → StopsAt IsSection xs a → StopsAt IsSection xs b → a ≡ b }
-    ensures header { (xs : List ℕ) (a b : ℕ) → StopsAt IsHeader xs a → StopsAt IsHeader xs b → a ≡ b }
-    ensures alias { (xs : List ℕ) (a b : ℕ) → StopsAt IsAlias xs a → StopsAt IsAlias xs b → a ≡ b }
-    ensures setting { (xs : List ℕ) (a b : ℕ) → StopsAt IsSetting xs a → StopsAt IsSetting xs b → a ≡ b }
 {}
 
 /// A line is refused for the first of all faults of its words, and taken where they have none.

@@ -9,19 +9,17 @@
 
 mod drafts;
 mod faults;
-#[cfg(test)]
-mod grammar_tests;
 mod hotkey_judging;
-#[cfg(test)]
-mod hotkey_print_tests;
 mod hotkey_printing;
-#[cfg(test)]
-mod hotkey_tests;
 mod judging;
 mod laws;
 mod link_table;
 mod parsing;
 mod printing;
+#[cfg(test)]
+mod printing_tests;
+#[cfg(test)]
+mod refusal_tests;
 mod sections;
 mod shapes;
 #[cfg(test)]
@@ -32,9 +30,8 @@ mod words;
 pub use faults::{ConfigFault, ConfigKind, ConfigRefusal};
 pub use laws::{
     aliases_are_spelled, faults_stand_in_order, headers_are_spelled, hotkeys_mean_what_they_spell,
-    lines_stop_at_one_place, lines_stop_where_they_cannot_go_on, links_are_spelled,
-    links_stop_where_they_cannot_go_on, refused_for_the_first_fault, sections_are_spelled,
-    settings_are_spelled,
+    lines_stop_where_they_cannot_go_on, links_are_spelled, links_stop_where_they_cannot_go_on,
+    refused_for_the_first_fault, sections_are_spelled, settings_are_spelled,
 };
 pub use parsing::parse;
 pub use printing::print;

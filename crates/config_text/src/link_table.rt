@@ -5,12 +5,9 @@ ghost use Rattle.screen_links.specs.declared.link.Link.{Link as OneLink};
 ghost use Rattle.config_text.specs.LinkTables as spec;
 ghost use Rattle.config_text.specs.LinkTables.{IsTableOf};
 
-use screen_links::Link;
+use screen_links::{Link, SIDE_END};
 use share_base::{OutOfMemory, Side};
 use std::alloc::Global;
-
-/// How many hundredths a side has.
-const HUNDREDTHS: u8 = 100;
 
 /// How many cells a screen has.
 const SCREEN_CELLS: usize = 400;
@@ -45,7 +42,7 @@ fn put_link(cells: &mut Vec<Option<Link>>, link: Link, count: u16)
     if link.from.0 >= count {
         return;
     }
-    if link.range.a >= HUNDREDTHS {
+    if link.range.a >= SIDE_END {
         return;
     }
     let cell = cell_of(link.from.0, link.side, link.range.a);

@@ -14,7 +14,7 @@ use crate::hotkey_printing::put_hotkeys;
 use crate::link_table::{cell_of, link_table};
 use option_table::{put_number, put_option_lines};
 use screen_config::{Alias, Config, Screen};
-use screen_links::{Link, Range};
+use screen_links::{Link, Range, SIDE_END};
 use share_base::{Octets, OutOfMemory, ScreenNo, Side};
 use std::alloc::Global;
 
@@ -106,7 +106,7 @@ fn put_alias_lines(screen: u16, aliases: &[Alias], out: &mut Octets) -> Result<(
 fn put_range(range: Range, out: &mut Octets) -> Result<(), OutOfMemory>
     ensures { OnOk result (out.new ≡ out.old ++ spec.range_text range) }
 {
-    if range.a == 0 && range.b == 100 {
+    if range.a == 0 && range.b == SIDE_END {
         return Ok(());
     }
     out.extend(b"(")?;
@@ -199,7 +199,7 @@ fn put_side(
     requires known { from < length config.now.screens }
     ensures { OnOk result (out.new ≡ out.old ++ spec.side_links config.now from side) }
 {
-    for a in 0..100 {
+    for a in 0..SIDE_END {
         put_link_at(config, table, from, side, a, out)?;
     }
     Ok(())

@@ -1,108 +1,18 @@
+//! What is read of a text, and its limits.
+
 use super::*;
+use hotkey_rules::{Action, LockMode, MOST_RULES};
 use option_table::put_number;
-use share_base::{Octets, OutOfMemory, Words32};
+use screen_config::{MOST_ACTION_KEYS, MOST_ACTIONS, MOST_ALIASES};
+use screen_links::MOST_LINKS;
+use share_base::{
+    Button, Corners, KeyId, LONGEST_NAME, MOST_SCREENS, Mask, MouseButton, Octets, RuleNo,
+    ScreenNo, Side, Words32,
+};
+use std::alloc::Global;
 use std::test::*;
 
-/// A text that is refused, with its line, column and kind.
-#[derive(Clone, Copy)]
-pub(crate) struct Refused(pub &'static [u8], pub u32, pub u32, pub ConfigKind);
-
-// Rows and long texts stand in functions, whose results no proof looks into.
-fn refused_texts() -> [Refused; 24] {
-    [
-        Refused(b"section: screens\n\t-a:", 2, 2, ConfigKind::BadName),
-        Refused(b"section: screens\n\t:", 2, 2, ConfigKind::BadName),
-        Refused(
-            b"section: screens\n\tdesk:\n\tDESK:",
-            3,
-            2,
-            ConfigKind::DuplicateScreen,
-        ),
-        Refused(b"section: screens", 1, 1, ConfigKind::UnclosedSection),
-        Refused(b"section: screen", 1, 10, ConfigKind::UnknownSection),
-        Refused(
-            b"section: aliases\n\tdesk:",
-            2,
-            2,
-            ConfigKind::UnknownScreen,
-        ),
-        Refused(
-            b"section: screens\na:\nend\nsection: aliases\na:\nA",
-            6,
-            1,
-            ConfigKind::DuplicateAlias,
-        ),
-        Refused(
-            b"section: screens\na:\nend\nsection: links\na:\nleft(50,50)=a",
-            6,
-            5,
-            ConfigKind::BadRange,
-        ),
-        Refused(
-            b"section: options\nshift = ctrl",
-            2,
-            1,
-            ConfigKind::UnknownOption,
-        ),
-        Refused(
-            b"section: options\nheartbeat = \nend",
-            2,
-            12,
-            ConfigKind::BadValue,
-        ),
-        Refused(
-            b"section: options\nheartbeat = 05",
-            2,
-            13,
-            ConfigKind::BadValue,
-        ),
-        Refused(b"sections: x", 1, 8, ConfigKind::BadLine),
-        Refused(b"screens:", 1, 2, ConfigKind::BadLine),
-        Refused(b"section:", 1, 9, ConfigKind::BadLine),
-        Refused(b"section: options\na:", 2, 1, ConfigKind::BadLine),
-        Refused(b"section: screens\nshift = none", 2, 1, ConfigKind::BadLine),
-        Refused(
-            b"section: options\nkeystroke (a) = ",
-            2,
-            16,
-            ConfigKind::BadValue,
-        ),
-        Refused(
-            b"section: screens\na:\nend\nsection: links\na:\nleft(007,9)=a",
-            6,
-            7,
-            ConfigKind::BadLine,
-        ),
-        Refused(b"section: screens\n\ta\x01:", 2, 3, ConfigKind::BadLine),
-        Refused(b"section: screens\nend\r", 2, 4, ConfigKind::BadLine),
-        Refused(
-            b"section: screens\na:\nend\nsection: links\na:\nleft(9,1) = -x",
-            6,
-            13,
-            ConfigKind::BadName,
-        ),
-        Refused(
-            b"section: screens\na:\nend\nsection: links\na:\nleft(9,1) = x",
-            6,
-            13,
-            ConfigKind::UnknownScreen,
-        ),
-        Refused(
-            b"section: screens\n\tdesk:\nend\nsection: links\n\tdesk:\n\t\tright(0,60) = desk\n\t\tright(50,100) = desk\nend",
-            7,
-            3,
-            ConfigKind::Overlap,
-        ),
-        Refused(
-            b"section: screens\n\tdesk:\nend\nsection: links\n\tdesk:\n\t\tright(0,60) = desk\n\t\tright(50,100) = desk(5,5)\nend",
-            7,
-            23,
-            ConfigKind::BadRange,
-        ),
-    ]
-}
-
-fn three_screens() -> &'static [u8] {
+pub(crate) fn three_screens() -> &'static [u8] {
     b"# three desks
 section: screens
 \tdesk:
@@ -124,37 +34,6 @@ section: links
 \tpad:
 \t\tleft = desk(0,50)
 \tlap:
-\t\tleft = desk(50,100)
-end
-section: options
-\theartbeat = 5000
-\tswitchDelay = 250
-\tkeystroke(Control+Alt+Right) = switchInDirection(right)
-end
-"
-}
-
-fn three_screens_again() -> &'static [u8] {
-    b"section: screens
-\tdesk:
-\t\thalfDuplexCapsLock = false
-\t\tswitchCorners = none +top-left
-\t\tswitchCornerSize = 20
-\tpad:
-\t\tshift = ctrl
-\tlap.local:
-end
-section: aliases
-\tlap.local:
-\t\tlap
-end
-section: links
-\tdesk:
-\t\tright(0,50) = pad
-\t\tright(50,100) = lap.local
-\tpad:
-\t\tleft = desk(0,50)
-\tlap.local:
 \t\tleft = desk(50,100)
 end
 section: options
@@ -206,94 +85,202 @@ end
 "
 }
 
-pub(crate) fn refusal(rt: &HostRuntime, text: &[u8]) -> Option<ConfigRefusal> {
+pub(crate) fn refusal(alloc: Global, text: &[u8]) -> Option<ConfigRefusal> {
     if text.len() > 1_000_000 {
         return None;
     }
-    match parse(rt.alloc(), text) {
+    match parse(alloc, text) {
         Err(ConfigFault::Refused(refusal)) => Some(refusal),
         _ => None,
     }
 }
 
-pub(crate) fn read(rt: &HostRuntime, text: &[u8]) -> Result<Config, ConfigFault> {
+fn read(alloc: Global, text: &[u8]) -> Result<Config, ConfigFault> {
     if text.len() > 1_000_000 {
         return Err(ConfigFault::OutOfMemory);
     }
-    parse(rt.alloc(), text)
+    parse(alloc, text)
 }
 
-pub(crate) fn printed(rt: &HostRuntime, text: &[u8]) -> Result<Octets, Fail> {
-    let config = read(rt, text)?;
-    let mut out = Octets::new(rt.alloc());
-    print(rt.alloc(), &config, &mut out)?;
+pub(crate) fn printed(alloc: Global, text: &[u8]) -> Result<Octets, Fail> {
+    let config = read(alloc, text)?;
+    let mut out = Octets::new(alloc);
+    print(alloc, &config, &mut out)?;
     Ok(out)
 }
 
 #[test]
-fn each_text_is_refused_at_its_place(rt: HostRuntime) {
-    let texts = refused_texts();
-    for row in &texts {
-        let wanted = ConfigRefusal {
-            line: row.1,
-            column: row.2,
-            kind: row.3,
-        };
-        assert_eq!(rt; refusal(&rt, row.0), Some(wanted));
-    }
-}
-
-#[test]
 fn usual_texts_are_read(rt: HostRuntime) {
-    assert!(rt; read(&rt, b"").is_ok());
-    assert!(rt; read(&rt, b"section: screens\r\n\ta: # \xff\r\nend").is_ok());
-}
-
-#[test]
-fn the_normal_form_is_printed(rt: HostRuntime) -> Result<(), Fail> {
-    let out = printed(&rt, three_screens())?;
-    assert_eq!(rt; out.as_slice(), three_screens_again());
-    Ok(())
-}
-
-#[test]
-fn every_option_is_read_and_printed(rt: HostRuntime) -> Result<(), Fail> {
-    let out = printed(&rt, every_option())?;
-    assert_eq!(rt; out.as_slice(), every_option());
-    Ok(())
+    assert!(rt; read(rt.alloc(), b"section: screens\r\n\ta: # \xff\r\nend").is_ok());
 }
 
 #[test]
 fn a_screen_is_sent_what_is_set(rt: HostRuntime) -> Result<(), Fail> {
-    let config = read(&rt, three_screens())?;
+    let config = read(rt.alloc(), three_screens())?;
     let pad = config.find(b"PAD").ok_or("pad")?;
     assert_eq!(rt; config.name(pad).as_slice(), b"pad".as_slice());
     let mut words = Words32::new(rt.alloc());
     config.wire_options(rt.alloc(), pad, &mut words)?;
     assert_eq!(rt;
         words.as_slice(),
-        [1_296_909_907, 2, 1_212_240_468, 5000, 1_397_970_772, 250].as_slice()
+        [0x4d4d_4653, 2, 0x4841_5254, 5000, 0x5353_5754, 250].as_slice()
     );
     Ok(())
 }
 
-pub(crate) fn put_numbered(
-    text: &mut Octets,
-    before: &[u8],
-    n: u32,
-    after: &[u8],
-) -> Result<(), OutOfMemory> {
-    text.extend(before)?;
-    put_number(n, text)?;
-    text.extend(after)
+fn defaults() -> Globals {
+    Globals {
+        heartbeat: 3000,
+        switch_delay: 0,
+        switch_double_tap: 0,
+        switch_corners: 0,
+        switch_corner_size: 0,
+        relative_mouse_moves: false,
+        clipboard_sharing: true,
+        clipboard_sharing_size: 3072,
+        screen_saver_sync: true,
+        switch_needs_shift: false,
+        switch_needs_control: false,
+        switch_needs_alt: false,
+        win32_keep_foreground: true,
+        disable_lock_to_screen: false,
+        default_lock_to_screen_state: false,
+        protocol: Protocol::Synergy,
+    }
 }
 
-fn too_many(line: u32, column: u32) -> ConfigRefusal {
-    ConfigRefusal {
-        line,
-        column,
-        kind: ConfigKind::TooMany,
+#[test]
+fn options_have_their_defaults(rt: HostRuntime) -> Result<(), Fail> {
+    assert_eq!(rt; read(rt.alloc(), b"")?.globals(), defaults());
+    Ok(())
+}
+
+#[test]
+fn a_screen_has_its_own_corners(rt: HostRuntime) -> Result<(), Fail> {
+    let config = read(rt.alloc(), every_option())?;
+    assert_eq!(rt; config.count(), 1);
+    let screen = config.find(b"a").ok_or("found")?;
+    assert_eq!(rt;
+        config.corners(screen),
+        Corners {
+            set: 4,
+            size: 32_767
+        }
+    );
+    assert_eq!(rt; config.globals().switch_corners, 15);
+    assert_eq!(rt; config.globals().switch_corner_size, 1);
+    assert!(rt; config.links().as_slice().is_empty());
+    assert!(rt; config.find(b"b").is_none());
+    Ok(())
+}
+
+fn every_action() -> [Action; 11] {
+    [
+        Action::KeyStroke {
+            id: KeyId(97),
+            mods: Mask(0),
+            button: Button(0xf000),
+        },
+        Action::KeyPress {
+            id: KeyId(0xefe1),
+            mods: Mask(31),
+            button: Button(0xf001),
+        },
+        Action::KeyRelease {
+            id: KeyId(0xef08),
+            mods: Mask(2),
+            button: Button(0xf002),
+        },
+        Action::MouseClick {
+            mods: Mask(0),
+            b: MouseButton(1),
+        },
+        Action::MousePress {
+            mods: Mask(8),
+            b: MouseButton(255),
+        },
+        Action::MouseRelease {
+            mods: Mask(0),
+            b: MouseButton(10),
+        },
+        Action::Lock(LockMode::On),
+        Action::Lock(LockMode::Toggle),
+        Action::SwitchTo(ScreenNo(0)),
+        Action::SwitchTo(ScreenNo(1)),
+        Action::SwitchToward(Side::Up),
+    ]
+}
+
+const DESK: &[u8] =
+    b"section: screens\ndesk:\npad:\nend\nsection: aliases\npad:\ntablet\nend\nsection: options\n\t";
+
+fn with_options(alloc: Global, lines: &[u8]) -> Result<Config, Fail> {
+    let mut text = Octets::new(alloc);
+    text.extend(DESK)?;
+    text.extend(lines)?;
+    text.extend(b"\nend")?;
+    Ok(read(alloc, text.as_slice())?)
+}
+
+#[test]
+fn every_action_is_read(rt: HostRuntime) -> Result<(), Fail> {
+    let config = with_options(
+        rt.alloc(),
+        b"keystroke(Alt+F2) = keystroke(a), keyDown(super+Meta+ALT+Control+Shift+shift_l), keyUp(Control+BACKSPACE),mousebutton(1),mouseDown(Meta+255) , mouseUp(10), lockCursorToScreen(on), lockCursorToScreen(toggle), switchToScreen(DESK), switchToScreen(Tablet), switchInDirection(up)",
+    )?;
+    let rules = config.rules();
+    let found = rules.find_key(KeyId(0xefbf), Mask(4));
+    assert_eq!(rt; found, Some(RuleNo(0)));
+    assert_eq!(rt; rules.len(), 1);
+    assert_eq!(rt;
+        rules.press(RuleNo(0)).as_slice(),
+        every_action().as_slice()
+    );
+    assert!(rt; rules.release(RuleNo(0)).as_slice().is_empty());
+    Ok(())
+}
+
+fn press(id: u16, place: u16) -> Action {
+    Action::KeyPress {
+        id: KeyId(id),
+        mods: Mask(0),
+        button: Button(place),
     }
+}
+
+#[test]
+fn keys_are_numbered_as_they_first_come(rt: HostRuntime) -> Result<(), Fail> {
+    let config = with_options(
+        rt.alloc(),
+        b"keystroke(z) = keyDown(b); keyDown(a), keyDown(b)\nmousebutton(3) = keyDown(a), keyDown(c)\n",
+    )?;
+    let rules = config.rules();
+    assert_eq!(rt; rules.len(), 2);
+    assert_eq!(rt; rules.find_button(MouseButton(3), Mask(0)), Some(RuleNo(1)));
+    assert_eq!(rt;
+        rules.press(RuleNo(0)).as_slice(),
+        [press(98, 0xf000)].as_slice()
+    );
+    assert_eq!(rt;
+        rules.release(RuleNo(0)).as_slice(),
+        [press(97, 0xf001), press(98, 0xf000)].as_slice()
+    );
+    assert_eq!(rt;
+        rules.press(RuleNo(1)).as_slice(),
+        [press(97, 0xf001), press(99, 0xf002)].as_slice()
+    );
+    Ok(())
+}
+
+#[test]
+fn limits_are_those_of_the_format(rt: HostRuntime) {
+    assert_eq!(rt; MOST_SCREENS, 64);
+    assert_eq!(rt; LONGEST_NAME, 255);
+    assert_eq!(rt; MOST_ALIASES, 256);
+    assert_eq!(rt; MOST_LINKS, 1024);
+    assert_eq!(rt; MOST_RULES, 256);
+    assert_eq!(rt; MOST_ACTION_KEYS, 256);
+    assert_eq!(rt; MOST_ACTIONS, 4096);
 }
 
 #[test]
@@ -301,47 +288,15 @@ fn a_65th_screen_is_too_many(rt: HostRuntime) -> Result<(), Fail> {
     let mut text = Octets::new(rt.alloc());
     text.extend(b"section: screens\n")?;
     for n in 0..65 {
-        put_numbered(&mut text, b"\ts", n, b":\n")?;
+        text.extend(b"\ts")?;
+        put_number(n, &mut text)?;
+        text.extend(b":\n")?;
     }
-    let refusal = refusal(&rt, text.as_slice()).ok_or("refused")?;
-    assert_eq!(rt; refusal, too_many(66, 2));
-    Ok(())
-}
-
-#[test]
-fn a_257th_alias_is_too_many(rt: HostRuntime) -> Result<(), Fail> {
-    let mut text = Octets::new(rt.alloc());
-    text.extend(b"section: screens\na:\nend\nsection: aliases\na:\n")?;
-    for n in 0..257 {
-        put_numbered(&mut text, b"\t\ts", n, b"\n")?;
-    }
-    let refusal = refusal(&rt, text.as_slice()).ok_or("refused")?;
-    assert_eq!(rt; refusal, too_many(262, 3));
-    Ok(())
-}
-
-fn put_links(text: &mut Octets) -> Result<(), OutOfMemory> {
-    for a in 0..100 {
-        put_numbered(text, b"up(", a, b",")?;
-        put_numbered(text, b"", a + 1, b")=s0\n")?;
-    }
-    Ok(())
-}
-
-#[test]
-fn a_1025th_link_is_too_many(rt: HostRuntime) -> Result<(), Fail> {
-    let mut text = Octets::new(rt.alloc());
-    text.extend(b"section: screens\n")?;
-    for n in 0..11 {
-        put_numbered(&mut text, b"s", n, b":\n")?;
-    }
-    text.extend(b"end\nsection: links\n")?;
-    for n in 0..11 {
-        put_numbered(&mut text, b"s", n, b":\n")?;
-        put_links(&mut text)?;
-    }
-    // Line 14 opens the section, a screen has 101 lines in it, and this is the eleventh screen's 25th link.
-    let refusal = refusal(&rt, text.as_slice()).ok_or("refused")?;
-    assert_eq!(rt; refusal, too_many(1050, 1));
+    let wanted = ConfigRefusal {
+        line: 66,
+        column: 2,
+        kind: ConfigKind::TooMany,
+    };
+    assert_eq!(rt; refusal(rt.alloc(), text.as_slice()), Some(wanted));
     Ok(())
 }

@@ -8,10 +8,12 @@
 mod corner;
 mod edge;
 mod gate;
+mod laws;
 #[cfg(test)]
 mod tests;
 
 pub use corner::in_corner;
 pub use edge::{Axis, Edge, leaves};
 pub use gate::{Gate, GateAnswer, Waiting};
+pub use laws::{corner_is_tested, edge_is_passed};
 pub use share_base::Corners;

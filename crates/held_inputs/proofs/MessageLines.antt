@@ -1,5 +1,5 @@
 -- The lines of a message whose fields are in their ranges are in theirs.
-use Rattle.std.proofs.Common.{◌≡◌, ◌∙◌, ap, sym, refl, ℕ, zero, suc, ◌^◌, ◌<◌, ◌≤◌, Bool, true, false, cond, List, [], ◌∷◌, ◌++◌, map, arith}
+use Rattle.std.proofs.Common.{◌≡◌, refl, ℕ, zero, suc, ◌^◌, ◌<◌, Bool, true, false, cond, List, [], ◌∷◌, ◌++◌, map, arith}
 use Rattle.std.specs.Prelude.{Option, None, Some, IfSome, nat_eq, bit_and}
 use Rattle.std.specs.Option.{option_map}
 use Rattle.std.specs.List.{AllByRecursion}
@@ -17,7 +17,7 @@ use Rattle.modifier_map.specs.Table.{row, bit_of, class_of_left, class_of_right}
 use Rattle.modifier_map.specs.Map.{target, left_key, right_key, meant_key, moved_bit}
 use Rattle.share_base.specs.declared.numbers.KeyId.{KeyId}
 use Rattle.held_inputs.specs.declared.line.Line.{Line}
-use Rattle.held_inputs.specs.declared.line.Line.TheVariants.{Enter, Leave, KeyDown, KeyRepeat, KeyUp, ButtonDown, ButtonUp, MoveTo, MoveBy, Wheel}
+use Rattle.held_inputs.specs.declared.line.Line.TheVariants.{Leave, KeyDown, KeyRepeat, ButtonDown, ButtonUp}
 use Rattle.held_inputs.specs.Ranges.{Fits}
 use Rattle.held_inputs.specs.Down.{last_where, or_else, leaves_down, id_in, names_key, names_button, presses_key, down, is_button_down, held_one, keys_below, buttons_below, held_keys, held_buttons, up_of, releases}
 use Rattle.held_inputs.specs.Screen.{Screen, first_press, press, repeat, lift, applied, meant_id, meant_mask}

@@ -2,7 +2,7 @@
 
 ghost use Rattle.std.specs.Prelude.{◌≡◌, ◌≤◌, ◌<◌};
 ghost use Rattle.share_base.specs.Moments.{last_moment};
-ghost use Rattle.screen_config.specs.Sound.{most_screens};
+ghost use Rattle.share_base.specs.declared.screen_set.TheConstants.{MOST_SCREENS};
 ghost use Rattle.hello_states.specs.Phases.{Asked as in_asked};
 ghost use Rattle.hello_states.specs.TypedPhases.{asked_phase, parting_phase};
 ghost use Rattle.hello_states.specs.Handshake.{parting_for, asked_after_info};
@@ -38,7 +38,7 @@ pub enum Informed {
 impl Model for Asked {
     ghost use Rattle.std.specs.Prelude.{◌≤◌, ◌<◌};
     ghost use Rattle.share_base.specs.Moments.{last_moment};
-    ghost use Rattle.screen_config.specs.Sound.{most_screens};
+    ghost use Rattle.share_base.specs.declared.screen_set.TheConstants.{MOST_SCREENS};
     ghost use Rattle.hello_states.specs.TypedPhases.{AskedParts};
 
     ghost Value = { AskedParts };
@@ -48,12 +48,12 @@ impl Model for Asked {
       asked = record { screen = a.screen.0; accepted = a.accepted; rate = a.rate };
     } };
 
-    ghost invariant = { λ a. (a.screen.0 < most_screens) × (a.accepted ≤ last_moment) };
+    ghost invariant = { λ a. (a.screen.0 < MOST_SCREENS) × (a.accepted ≤ last_moment) };
 }
 
 impl Asked {
     pub(crate) fn new(serial: u64, screen: ScreenNo, accepted: u64, rate: u32) -> Asked
-        requires screen { screen.0 < most_screens }
+        requires screen { screen.0 < MOST_SCREENS }
         requires moment { accepted ≤ last_moment }
         ensures phase { asked_phase result
             ≡ in_asked (record { screen = screen.0; accepted = accepted; rate = rate }) }
@@ -104,7 +104,7 @@ impl Asked {
     /// Returns the screen as which it was admitted, a number below 64.
     pub fn screen(&self) -> ScreenNo
         ensures value { result.0 ≡ self.now.asked.screen }
-        ensures bound { result.0 < most_screens }
+        ensures bound { result.0 < MOST_SCREENS }
     {
         self.screen
     }

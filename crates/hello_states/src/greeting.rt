@@ -3,7 +3,7 @@
 ghost use Rattle.std.specs.Prelude.{◌≡◌, ◌≤◌, ◌<◌, IfOk};
 ghost use Rattle.share_base.specs.Screens.{has};
 ghost use Rattle.share_base.specs.Moments.{last_moment};
-ghost use Rattle.screen_config.specs.Sound.{most_screens};
+ghost use Rattle.share_base.specs.declared.screen_set.TheConstants.{MOST_SCREENS};
 ghost use Rattle.hello_states.specs.TypedPhases.{greeting_phase, parting_phase};
 ghost use Rattle.hello_states.specs.Handshake.{greeting_at, parting_for, after_hello};
 ghost use Rattle.hello_states.specs.Answers.{answer_under, rate_under, answer_of, phase_answered, serial_answered};
@@ -120,7 +120,7 @@ fn admitted_screen(
     used: &ScreenSet,
 ) -> Result<ScreenNo, PartCause>
     ensures answer { answer_of result ≡ answer_under config.now used.now major minor name.now }
-    ensures below { IfOk result (λ n. n.0 < most_screens) }
+    ensures below { IfOk result (λ n. n.0 < MOST_SCREENS) }
 {
     if !is_admitted(major, minor) {
         return Err(PartCause::Version);

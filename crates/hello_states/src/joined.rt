@@ -3,7 +3,7 @@
 ghost use Rattle.std.specs.Prelude.{◌≡◌, ◌<◌};
 ghost use Rattle.std.specs.Borrow.{sem};
 ghost use Rattle.share_base.specs.Shapes.{IsScreenShape};
-ghost use Rattle.screen_config.specs.Sound.{most_screens};
+ghost use Rattle.share_base.specs.declared.screen_set.TheConstants.{MOST_SCREENS};
 ghost use Rattle.hello_states.specs.Phases.{Joined as in_joined};
 ghost use Rattle.hello_states.specs.TypedPhases.{joined_phase, parting_phase};
 ghost use Rattle.hello_states.specs.Handshake.{parting_for, joined_after_info};
@@ -30,7 +30,7 @@ pub struct Joined {
 impl Model for Joined {
     ghost use Rattle.std.specs.Prelude.{◌<◌};
     ghost use Rattle.share_base.specs.Shapes.{IsScreenShape};
-    ghost use Rattle.screen_config.specs.Sound.{most_screens};
+    ghost use Rattle.share_base.specs.declared.screen_set.TheConstants.{MOST_SCREENS};
     ghost use Rattle.hello_states.specs.TypedPhases.{JoinedParts};
 
     ghost Value = { JoinedParts };
@@ -40,12 +40,12 @@ impl Model for Joined {
       joined = record { screen = j.screen.0; shape = j.shape; alive = j.alive };
     } };
 
-    ghost invariant = { λ j. (j.screen.0 < most_screens) × IsScreenShape j.shape };
+    ghost invariant = { λ j. (j.screen.0 < MOST_SCREENS) × IsScreenShape j.shape };
 }
 
 impl Joined {
     pub(crate) fn new(serial: u64, screen: ScreenNo, shape: Shape, alive: Alive) -> Joined
-        requires screen { screen.0 < most_screens }
+        requires screen { screen.0 < MOST_SCREENS }
         requires shape { IsScreenShape shape }
         ensures phase { joined_phase result
             ≡ in_joined (record { screen = screen.0; shape = shape; alive = alive }) }
@@ -92,7 +92,7 @@ impl Joined {
     /// Returns the screen that is joined, a number below 64.
     pub fn screen(&self) -> ScreenNo
         ensures value { result.0 ≡ self.now.joined.screen }
-        ensures bound { result.0 < most_screens }
+        ensures bound { result.0 < MOST_SCREENS }
     {
         self.screen
     }

@@ -217,7 +217,7 @@ fn each_cause_has_its_row(rt: HostRuntime) -> Result<(), Fail> {
         assert_eq!(rt; cause.drops_queue(), is_dropped);
         let mut body = Octets::new(rt.alloc());
         if let Some(message) = cause.farewell() {
-            encode(rt.alloc(), &message, &mut body)?;
+            encode(&message, &mut body)?;
         }
         assert_eq!(rt; body.as_slice(), farewell);
     }

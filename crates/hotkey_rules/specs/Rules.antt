@@ -5,21 +5,18 @@ use Rattle.share_base.specs.declared.numbers.RuleNo.{RuleNo}
 use Rattle.hotkey_rules.specs.declared.action.Action.{Action}
 use Rattle.hotkey_rules.specs.declared.trigger.Trigger.{Trigger}
 use Rattle.hotkey_rules.specs.declared.rule.Rule.{Rule}
+use Rattle.hotkey_rules.specs.declared.rules.TheConstants.{MOST_RULES}
 use Rattle.hotkey_rules.specs.declared.rules.RulesFault.{RulesFault}
 use Rattle.hotkey_rules.specs.declared.rules.RulesFault.TheVariants as fault
 
 abbrev pub rule_of : Trigger → List Action → List Action → Rule
 rule_of trigger press release = record { trigger = trigger; press = press; release = release }
 
--- how many rules are held at most
-abbrev pub most : ℕ
-most = 256
-
 -- the answer's cause, and the rules after it: with the new one at the end, or as they were
 abbrev pub Adds : Result (Unit {0}) RulesFault → List Rule → Rule → List Rule → Type 0
-Adds (Ok _) old rule new = (length old < most) × (new ≡ old ++ rule ∷ [])
-Adds (Err fault.Full) old rule new = (length old ≡ most) × (new ≡ old)
-Adds (Err fault.OutOfMemory) old rule new = (length old < most) × (new ≡ old)
+Adds (Ok _) old rule new = (length old < MOST_RULES) × (new ≡ old ++ rule ∷ [])
+Adds (Err fault.Full) old rule new = (length old ≡ MOST_RULES) × (new ≡ old)
+Adds (Err fault.OutOfMemory) old rule new = (length old < MOST_RULES) × (new ≡ old)
 
 -- the list of the rule of that number that is done when its trigger goes down
 abbrev pub press_of : List Rule → RuleNo → Option (List Action)

@@ -21,5 +21,5 @@ pub use actions::Actions;
 pub use key_names::{key_of_name, name_of_key};
 pub use laws::{first_rule, names_given_back, row_found, rows_apart};
 pub use rule::Rule;
-pub use rules::{Rules, RulesFault};
+pub use rules::{MOST_RULES, Rules, RulesFault};
 pub use trigger::Trigger;

@@ -12,7 +12,7 @@ use std::alloc::Global;
 use std::marker::Model;
 
 /// How many rules are held at most.
-const MOST: usize = 256;
+pub const MOST_RULES: usize = 256;
 
 /// Why a rule was not added. The variants stand in the order in which they are looked for.
 #[derive(Clone, Copy, Debug, PartialEq, Eq)]
@@ -33,13 +33,13 @@ pub struct Rules {
 impl Model for Rules {
     ghost use Rattle.std.specs.Prelude.{List, length, ◌≤◌};
     ghost use Rattle.hotkey_rules.specs.declared.rule.Rule.{Rule as OneRule};
-    ghost use Rattle.hotkey_rules.specs.Rules.{most};
+    ghost use Rattle.hotkey_rules.specs.declared.rules.TheConstants.{MOST_RULES};
 
     ghost Value = { List OneRule };
 
     ghost view = { λ r. r.rules.items };
 
-    ghost invariant = { λ r. length r.rules.items ≤ most };
+    ghost invariant = { λ r. length r.rules.items ≤ MOST_RULES };
 }
 
 impl Rules {
@@ -61,7 +61,7 @@ impl Rules {
     ) -> Result<(), RulesFault>
         ensures { Adds result self.old (rule_of trigger press release) self.new }
     {
-        if self.rules.len() >= MOST {
+        if self.rules.len() >= MOST_RULES {
             return Err(RulesFault::Full);
         }
         let rule = Rule {
@@ -123,7 +123,7 @@ impl Rules {
     /// How many rules there are, at most 256.
     pub fn len(&self) -> usize
         ensures value { result ≡ length self.now }
-        ensures bound { length self.now ≤ 256 }
+        ensures bound { length self.now ≤ MOST_RULES }
     {
         self.rules.len()
     }
@@ -131,7 +131,7 @@ impl Rules {
     /// The rules, in the order in which they were added.
     pub fn as_slice(&self) -> &[Rule]
         ensures value { result.now ≡ self.now }
-        ensures bound { length self.now ≤ 256 }
+        ensures bound { length self.now ≤ MOST_RULES }
     {
         self.rules.as_slice()
     }

@@ -21,13 +21,13 @@ use Rattle.hotkey_text.specs.Faults.{unless, or_fault}
 use Rattle.hotkey_text.specs.Names.{action_named}
 use Rattle.hotkey_text.specs.LockModes.{lock_named}
 use Rattle.hotkey_text.specs.Keys.{key_named}
-use Rattle.hotkey_text.specs.Chords.{mask, with_modifier, or_last_word, mods_within, closed_at, allowed, key_chord_at, button_of, mouse_chord_at}
+use Rattle.hotkey_text.specs.Chords.{mask, mods_of, mods_at, closed_at, allowed, key_chord_at, button_of, mouse_chord_at}
 use Rattle.hotkey_text.specs.ChordWords.{ChordWords, word_or_last, words_within, chord_words}
 use Rattle.hotkey_text.specs.Shapes.{ActionForm, HotkeyForm, has_some}
 use Rattle.hotkey_text.specs.Arguments.{trigger_at, trigger_of, ScreenText, ActionText, SwitchTo, lock_at, side_at, screen_at, argument_of, action_of}
 use Rattle.hotkey_text.specs.FaultLists.{fault_unless, mod_faults, further_faults, key_chord_faults, mouse_chord_faults, word_faults, argument_faults, named_faults, action_faults, chord_faults, trigger_faults, first, refusal_of, faults_left, refusal_among}
 use Rattle.hotkey_text.proofs.SpelledChordWords.{chord_run, part_of, plus_there, plus_shorter}
-use Rattle.hotkey_text.proofs.FreeClasses.{free}
+use Rattle.hotkey_text.proofs.ModTurns.{made_then}
 use Rattle.hotkey_text.proofs.WordsAbove.{StandsFor, stands_for_none, Refused, Taken, judged}
 
 -- ---- steps
@@ -48,38 +48,23 @@ found_step (Some a) k left f fs h = h a
 
 -- ---- modifiers
 
--- a reader f goes on where the last word stands, and is refused for the first of the faults fs
-abbrev GoesOn : {A : Type 0} → (Mask × List ℕ → Result A HotkeyFault) → List HotkeyFault → ChordWords → Type 0
-GoesOn f fs words = (out : Mask × List ℕ) → chord_run out.1 ≡ (words.last, words.rest) → refusal_of (f out) ≡ first fs
+-- a reader f goes on with the last word, and is refused for the first of the faults fs
+abbrev GoesOn : {A : Type 0} → (Mask → Result A HotkeyFault) → List HotkeyFault → Type 0
+GoesOn f fs = (mods : Mask) → refusal_of (f mods) ≡ first fs
 
-abbrev AreFirst : {A : Type 0} → (Mask × List ℕ → Result A HotkeyFault) → List HotkeyFault → ℕ → ℕ → Type 0
-AreFirst f fs n k = (m : Mask) (above : List Text) (xs : List ℕ) → length xs ≤ k → StandsFor m above → free m < n → GoesOn f fs (words_within k xs)
-    → refusal_of (mods_within n m xs >>= f) ≡ first (mod_faults above (words_within k xs).mods ++ fs)
+word_first : {A : Type 0} (f : Mask → Result A HotkeyFault) (fs : List HotkeyFault) (m : Mask) (above : List Text) (word : Text) (words : List Text)
+    → ((next : Mask) → StandsFor next (above ++ word ∷ []) → refusal_of (mods_of next words >>= f) ≡ first (mod_faults (above ++ word ∷ []) words ++ fs))
+    → Refused m above word ⊎ Taken m above word → refusal_of (mods_of m (word ∷ words) >>= f) ≡ first (mod_faults above (word ∷ words) ++ fs)
+unfolding mods_of mod_faults
+word_first f fs m above word words again (inl r) = rw (r.read, r.judged) refl
+word_first f fs m above word words again (inr t) = rw (t.read, t.judged) (again t.next t.stands)
 
-word_first : {A : Type 0} (f : Mask × List ℕ → Result A HotkeyFault) (fs : List HotkeyFault) (n k : ℕ) (m : Mask) (above : List Text) (word : Text) (rest : List ℕ)
-    → AreFirst f fs n k → length rest ≤ k → free m < suc n → GoesOn f fs (words_within k rest) → Refused m above word ⊎ Taken m above word
-    → refusal_of ((with_modifier m word >>= λ next. mods_within n next rest) >>= f) ≡ first (mod_faults above (word ∷ (words_within k rest).mods) ++ fs)
-unfolding mod_faults
-word_first f fs n k m above word rest again h l go (inl r) = rw (r.read, r.judged) refl
-word_first f fs n k m above word rest again h l go (inr t) = rw (t.read, t.judged) (again t.next (above ++ word ∷ []) rest h t.stands (omega (arith, t.fewer)) go)
-
-turn_first : {A : Type 0} (f : Mask × List ℕ → Result A HotkeyFault) (fs : List HotkeyFault) (n k : ℕ) (m : Mask) (above : List Text) (xs : List ℕ) (o : Option (List ℕ))
-    → AreFirst f fs n k → maybe_sign_at 43 (chord_run xs).1 ≡ o → length xs ≤ suc k → StandsFor m above → free m < suc n → GoesOn f fs (word_or_last (words_within k) (chord_run xs) o)
-    → refusal_of (or_last_word (mods_within n) m xs (chord_run xs).0 o >>= f) ≡ first (mod_faults above (word_or_last (words_within k) (chord_run xs) o).mods ++ fs)
-unfolding mod_faults
-turn_first f fs n k m above xs None again e h s l go = go (m, xs) refl
-turn_first f fs n k m above xs (Some rest) again e h s l go =
-    let plus = plus_there (chord_run xs).1 rest e in
-    let shorter = plus_shorter xs (chord_run xs).0 plus.gap rest (rw plus.parts at (part_of xs)) in
-    word_first f fs n k m above (chord_run xs).0 rest again (omega arith) l go (judged m above (chord_run xs).0 s)
-
-mods_first : {A : Type 0} (f : Mask × List ℕ → Result A HotkeyFault) (fs : List HotkeyFault) (n k : ℕ) → AreFirst f fs n k
-unfolding mods_within words_within mod_faults maybe_sign_at
-mods_first f fs zero k m above xs h s l go = absurd (omega arith)
-mods_first f fs (suc n) zero m above [] h s l go = go (m, []) refl
-mods_first f fs (suc n) zero m above (x ∷ xs) h s l go = absurd (omega arith)
-mods_first f fs (suc n) (suc k) m above xs h s l go =
-    turn_first f fs n k m above xs (maybe_sign_at 43 (chord_run xs).1) (mods_first f fs n k) refl h s l go
+mods_first : {A : Type 0} (f : Mask → Result A HotkeyFault) (fs : List HotkeyFault) (m : Mask) (above words : List Text) → StandsFor m above → GoesOn f fs
+    → refusal_of (mods_of m words >>= f) ≡ first (mod_faults above words ++ fs)
+unfolding mods_of mod_faults
+mods_first f fs m above [] s go = go m
+mods_first f fs m above (word ∷ words) s go =
+    word_first f fs m above word words (λ next stands. mods_first f fs next (above ++ word ∷ []) words stands go) (judged m above word s)
 
 -- ---- a key, and a button
 
@@ -91,11 +76,11 @@ key_first : (modifiers : Bool) (mods : Mask) (word : Text × List ℕ)
 key_first modifiers mods word = found_step (allowed modifiers (key_named word.0.text)) kind.UnknownKey word.0.left _ _ (λ id. last (begins 41 word.1) kind.BadValue (length word.1) _)
 
 first_of_key : (modifiers : Bool) (xs : List ℕ) → refusal_of (key_chord_at modifiers xs) ≡ first (key_chord_faults modifiers xs)
-unfolding key_chord_at key_chord_faults
+unfolding key_chord_at key_chord_faults mods_at
 first_of_key modifiers xs =
     let words = chord_words xs in
-    mods_first (λ mods. key_at modifiers mods.0 (chord_run mods.1)) _ 6 (length xs) (mask 0) [] xs (omega arith) stands_for_none (omega arith)
-    (λ out e. ap (λ (p : Text × List ℕ). refusal_of (key_at modifiers out.0 p)) e ∙ key_first modifiers out.0 (words.last, words.rest))
+    ap refusal_of (made_then (mods_of (mask 0) words.mods) (λ (mods : Mask). (mods, words.last, words.rest)) (λ chord. key_at modifiers chord.0 (chord.1, chord.2)))
+    ∙ mods_first (λ mods. key_at modifiers mods (words.last, words.rest)) _ (mask 0) [] words.mods stands_for_none (λ mods. key_first modifiers mods (words.last, words.rest))
 
 abbrev button_at : Mask → Text × List ℕ → Result MouseChord HotkeyFault
 button_at mods word = or_fault (button_of (decimal_of 255 word.0.text)) kind.BadValue word.0.left >>= λ b. closed_at word.1 >>= λ _. Ok (record { b = b; mods = mods })
@@ -105,11 +90,11 @@ button_first : (mods : Mask) (word : Text × List ℕ)
 button_first mods word = found_step (button_of (decimal_of 255 word.0.text)) kind.BadValue word.0.left _ _ (λ b. last (begins 41 word.1) kind.BadValue (length word.1) _)
 
 first_of_mouse : (xs : List ℕ) → refusal_of (mouse_chord_at xs) ≡ first (mouse_chord_faults xs)
-unfolding mouse_chord_at mouse_chord_faults
+unfolding mouse_chord_at mouse_chord_faults mods_at
 first_of_mouse xs =
     let words = chord_words xs in
-    mods_first (λ mods. button_at mods.0 (chord_run mods.1)) _ 6 (length xs) (mask 0) [] xs (omega arith) stands_for_none (omega arith)
-    (λ out e. ap (λ (p : Text × List ℕ). refusal_of (button_at out.0 p)) e ∙ button_first out.0 (words.last, words.rest))
+    ap refusal_of (made_then (mods_of (mask 0) words.mods) (λ (mods : Mask). (mods, words.last, words.rest)) (λ chord. button_at chord.0 (chord.1, chord.2)))
+    ∙ mods_first (λ mods. button_at mods (words.last, words.rest)) _ (mask 0) [] words.mods stands_for_none (λ mods. button_first mods (words.last, words.rest))
 
 -- ---- triggers
 

@@ -2,7 +2,6 @@ pub mod ActionLengths
 pub mod ActionLists
 pub mod ArgumentBytes
 pub mod ChordsAgain
-pub mod EnoughTurns
 pub mod FaultsFromTheLeft
 pub mod FirstFaults
 pub mod FreeClasses
@@ -12,6 +11,8 @@ pub mod KeysAgain
 pub mod LineBytes
 pub mod LinesAgain
 pub mod ModSteps
+pub mod ModTurns
+pub mod NewClasses
 pub mod PrintedActions
 pub mod SpelledActions
 pub mod SpelledArguments

@@ -129,3 +129,22 @@ parts_within (suc n) xs (word ∷ words) last here rest h s l e =
 
 pub chord_words_again : (xs : List ℕ) (words : ChordWords) → SpellsChordWords xs words → chord_words xs ≡ words
 chord_words_again xs words h = parts_within (length xs) xs words.mods words.last h.here words.rest (omega arith) h.mods h.last h.none
+
+-- more turns than there are bytes answer the same
+pub enough_words : (n : ℕ) (xs : List ℕ) → length xs ≤ n → words_within n xs ≡ chord_words xs
+enough_words n xs h =
+    let s = chord_words_spelled xs in
+    parts_within n xs (chord_words xs).mods (chord_words xs).last s.here (chord_words xs).rest h s.mods s.last s.none
+
+step_by : (n : ℕ) (xs : List ℕ) (o : Option (List ℕ)) → length xs ≤ suc n → maybe_sign_at 43 (chord_run xs).1 ≡ o → word_or_last (words_within n) (chord_run xs) o ≡ word_or_last chord_words (chord_run xs) o
+step_by n xs None h e = refl
+step_by n xs (Some rest) h e =
+    let plus = plus_there (chord_run xs).1 rest e in
+    let shorter = plus_shorter xs (chord_run xs).0 plus.gap rest (rw plus.parts at (part_of xs)) in
+    ap (with_mod (chord_run xs).0) (enough_words n rest (omega arith))
+
+-- the first of them, and the others
+pub chord_words_step : (xs : List ℕ) → chord_words xs ≡ word_or_last chord_words (chord_run xs) (maybe_sign_at 43 (chord_run xs).1)
+unfolding words_within
+chord_words_step xs =
+    sym (enough_words (suc (length xs)) xs (omega arith)) ∙ step_by (length xs) xs (maybe_sign_at 43 (chord_run xs).1) (omega arith) refl

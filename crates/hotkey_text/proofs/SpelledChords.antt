@@ -25,11 +25,12 @@ use Rattle.hotkey_text.specs.declared.faults.HotkeyKind.TheVariants as kind
 use Rattle.hotkey_text.specs.Faults.{or_fault}
 use Rattle.hotkey_text.specs.Keys.{key_named}
 use Rattle.hotkey_rules.specs.WellFormed.{is_modifier_key}
-use Rattle.hotkey_text.specs.Chords.{mask, mods_at, closed_at, allowed, key_chord_at, button_of, mouse_chord_at}
+use Rattle.hotkey_text.specs.Chords.{mask, closed_at, allowed, key_chord_at, button_of, mouse_chord_at}
 use Rattle.hotkey_text.specs.SpellingWords.{SpellsMods, SpellsLast, AreApart, bits_of, SpellsKeyChord, SpellsMouseChord}
 use Rattle.hotkey_text.proofs.ArgumentBytes.{is_chord_byte, chord_taken, number_bytes}
 use Rattle.hotkey_text.proofs.WordSteps.{last_made, word_read}
 use Rattle.hotkey_text.proofs.WordSteps.{went, there}
+use Rattle.hotkey_text.proofs.ModTurns.{by_turns, in_turns}
 use Rattle.hotkey_text.proofs.SpelledMods.{mods_take, mods_again}
 
 -- ---- modifiers and a last word
@@ -55,7 +56,7 @@ last_read here word w is =
 
 -- a chord is read by its modifiers, and then by its last word
 chord_by : {A : Type 0} (f : Mask → Text × List ℕ → Result A HotkeyFault) (xs : List ℕ) (cs : List ModClass) (here word : List ℕ) (w : SpellsLast here word) → IsWord (takes word_kind.Chord) word
-    → SpellsMods xs cs here → AreApart cs → (mods_at xs >>= λ mods. f mods.0 (chord_run mods.1)) ≡ f (mask (bits_of cs)) (text_of word (length here), 41 ∷ w.0)
+    → SpellsMods xs cs here → AreApart cs → (in_turns xs >>= λ mods. f mods.0 (chord_run mods.1)) ≡ f (mask (bits_of cs)) (text_of word (length here), 41 ∷ w.0)
 chord_by f xs cs here word w is mods apart =
     let last = last_read here word w is in
     ap (λ (r : Result (Mask × List ℕ) HotkeyFault). r >>= λ mods. f mods.0 (chord_run mods.1)) (mods_again xs cs here last.tight last.last mods apart)
@@ -89,10 +90,14 @@ allowed_takes modifiers None id = λ e. absurd cc
 allowed_takes modifiers (Some k) id = cond_both (not modifiers && is_modifier_key k) None (Some k) (λ r. r ≡ Some id → (Some k ≡ Some id) × MayBe modifiers id) (λ t e. absurd cc)
     (λ t e. let same : k ≡ id = cc in (e, subst (MayBe modifiers) same (may_be modifiers k t)))
 
+abbrev key_from : Bool → Mask → Text × List ℕ → Result KeyChord HotkeyFault
+key_from modifiers mods word =
+    or_fault (allowed modifiers (key_named word.0.text)) kind.UnknownKey word.0.left >>= λ id. closed_at word.1 >>= λ u. Ok (record { id = id; mods = mods })
+
 pub key_chord_takes : (modifiers : Bool) (xs : List ℕ) (chord : KeyChord) → key_chord_at modifiers xs ≡ Ok chord → SpellsKeyChord modifiers xs chord
 unfolding key_chord_at
 key_chord_takes modifiers xs chord e =
-    let mods = went (mods_at xs) _ chord e in
+    let mods = went (in_turns xs) _ chord (sym (by_turns (key_from modifiers) xs) ∙ e) in
     let word = chord_run mods.0.1 in
     let id = went (or_fault (allowed modifiers (key_named word.0.text)) _ word.0.left) _ chord mods.2 in
     let close = went (closed_at word.1) _ chord id.2 in
@@ -114,17 +119,14 @@ key_chord_takes modifiers xs chord e =
       may_be = key.1;
     })
 
-abbrev key_from : Bool → Mask → Text × List ℕ → Result KeyChord HotkeyFault
-key_from modifiers mods word =
-    or_fault (allowed modifiers (key_named word.0.text)) kind.UnknownKey word.0.left >>= λ id. closed_at word.1 >>= λ u. Ok (record { id = id; mods = mods })
-
 pub key_chord_read : (modifiers : Bool) (xs : List ℕ) (chord : KeyChord) → SpellsKeyChord modifiers xs chord → key_chord_at modifiers xs ≡ Ok chord
 unfolding key_chord_at
 key_chord_read modifiers xs chord s =
     let bits : mask (bits_of s.classes) ≡ chord.mods = sym s.bits in
     let free = may_be_again modifiers chord.id s.may_be in
     let key : key_named s.word ≡ Some chord.id = s.key in
-    chord_by (key_from modifiers) xs s.classes s.here s.word s.last s.run s.mods s.apart
+    by_turns (key_from modifiers) xs
+    ∙ chord_by (key_from modifiers) xs s.classes s.here s.word s.last s.run s.mods s.apart
     ∙ ap (λ (m : Mask). key_from modifiers m (text_of s.word (length s.here), 41 ∷ s.last.0)) bits
     ∙ rw (key, free) refl
 
@@ -145,10 +147,13 @@ number_of word (Some n) b h = cond_both (n == 0) None (Some (button_at n)) (λ r
     let some : 1 ≤ n = omega (arith, eqb-false n 0 t) in
     subst (Number word) same (record { text = decimal_spelled 255 n word (omega arith) h; within = (some, decimal_within 255 n word h) }))
 
+abbrev button_from : Mask → Text × List ℕ → Result MouseChord HotkeyFault
+button_from mods word = or_fault (button_of (decimal_of 255 word.0.text)) kind.BadValue word.0.left >>= λ b. closed_at word.1 >>= λ u. Ok (record { b = b; mods = mods })
+
 pub mouse_chord_takes : (xs : List ℕ) (chord : MouseChord) → mouse_chord_at xs ≡ Ok chord → SpellsMouseChord xs chord
 unfolding mouse_chord_at
 mouse_chord_takes xs chord e =
-    let mods = went (mods_at xs) _ chord e in
+    let mods = went (in_turns xs) _ chord (sym (by_turns button_from xs) ∙ e) in
     let word = chord_run mods.0.1 in
     let b = went (or_fault (button_of (decimal_of 255 word.0.text)) _ word.0.left) _ chord mods.2 in
     let close = went (closed_at word.1) _ chord b.2 in
@@ -170,9 +175,6 @@ mouse_chord_takes xs chord e =
 number_word : (n : ℕ) → n ≤ 255 → IsWord (takes word_kind.Chord) (decimal n)
 number_word n h = (decimal_nonempty n (omega arith), all_weaker is_chord_byte (takes word_kind.Chord) chord_taken (decimal n) (number_bytes n (omega arith)))
 
-abbrev button_from : Mask → Text × List ℕ → Result MouseChord HotkeyFault
-button_from mods word = or_fault (button_of (decimal_of 255 word.0.text)) kind.BadValue word.0.left >>= λ b. closed_at word.1 >>= λ u. Ok (record { b = b; mods = mods })
-
 pub mouse_chord_read : (xs : List ℕ) (chord : MouseChord) → SpellsMouseChord xs chord → mouse_chord_at xs ≡ Ok chord
 unfolding mouse_chord_at
 mouse_chord_read xs chord s =
@@ -180,6 +182,7 @@ mouse_chord_read xs chord s =
     let bits : mask (bits_of s.classes) ≡ chord.mods = sym s.bits in
     let number : decimal_of 255 (decimal n) ≡ Some n = decimal_again 255 n (omega (arith, s.number.1)) s.number.1 in
     let some : (n == 0) ≡ false = ne_eqb n 0 (λ e. absurd (omega (arith, s.number.0))) in
-    chord_by button_from xs s.classes s.here (decimal n) s.last (number_word n s.number.1) s.mods s.apart
+    by_turns button_from xs
+    ∙ chord_by button_from xs s.classes s.here (decimal n) s.last (number_word n s.number.1) s.mods s.apart
     ∙ ap (λ (m : Mask). button_from m (text_of (decimal n) (length s.here), 41 ∷ s.last.0)) bits
     ∙ rw (number, some) refl

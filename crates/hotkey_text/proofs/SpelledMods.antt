@@ -17,12 +17,13 @@ use Rattle.text_lines.specs.Spelling.{IsRun, IsWord}
 use Rattle.text_lines.proofs.SpelledWords.{word_tight, text_of}
 use Rattle.text_lines.proofs.MaybeSigns.{maybe_sign_takes, maybe_sign_again}
 use Rattle.hotkey_rules.proofs.FirstFound.{found_listed}
-use Rattle.hotkey_text.specs.Chords.{mask, class_word, class_named, has_class, with_modifier, or_last_word, mods_within, mods_at}
+use Rattle.hotkey_text.specs.Chords.{mask, class_word, class_named, has_class, with_modifier}
 use Rattle.hotkey_text.specs.SpellingWords.{SpellsMod, SpellsMods, AreApart, bits_of}
 use Rattle.hotkey_text.proofs.WordSteps.{word_made, word_read}
 use Rattle.hotkey_text.proofs.WordSteps.{went}
 use Rattle.hotkey_text.proofs.ModSteps.{last_word, one_modifier}
-use Rattle.hotkey_text.proofs.EnoughTurns.{Turn, new_class, next_fewer}
+use Rattle.hotkey_text.proofs.ModTurns.{Turn, or_last_word, mods_within, in_turns}
+use Rattle.hotkey_text.proofs.NewClasses.{new_class, next_fewer}
 use Rattle.hotkey_text.proofs.FreeClasses.{grown, free, AreNew, all_new, grown_small, new_adds, new_takes_one, new_before, new_behind}
 use Rattle.hotkey_text.proofs.WordsFound.{class_found, each_class}
 
@@ -135,7 +136,7 @@ pub record TakesMods (xs : List ℕ) (out : Mask × List ℕ) : Type 0 where
   pub apart : AreApart classes
   pub bits : out.0 ≡ mask (bits_of classes)
 
-pub mods_take : (xs : List ℕ) (out : Mask × List ℕ) → mods_at xs ≡ Ok out → TakesMods xs out
+pub mods_take : (xs : List ℕ) (out : Mask × List ℕ) → in_turns xs ≡ Ok out → TakesMods xs out
 mods_take xs out e =
     let r = mods_read 6 (mask 0) xs out (omega arith) e in
     let sum : out.0.0 ≡ bits_of r.classes = omega (arith, r.bits) in
@@ -172,7 +173,7 @@ mods_read_again (suc n) m xs (c ∷ cs) here h f tight last (behind, one, others
 
 -- classes that stand once each, before a last word
 pub mods_again : (xs : List ℕ) (cs : List ModClass) (here : List ℕ) → is_tight here ≡ true → maybe_sign_at 43 (chord_run here).1 ≡ None → SpellsMods xs cs here → AreApart cs
-    → mods_at xs ≡ Ok (mask (bits_of cs), here)
+    → in_turns xs ≡ Ok (mask (bits_of cs), here)
 mods_again xs cs here tight last mods apart =
     let sum : 0 + bits_of cs ≡ bits_of cs = omega arith in
     mods_read_again 6 (mask 0) xs cs here (omega arith) (omega arith) tight last mods apart (all_new cs) ∙ ap (λ (k : ℕ). Ok (mask k, here)) sum

@@ -35,14 +35,13 @@ pub use arguments::{ActionWords, ScreenWord};
 pub use fault_laws::{words_are_refused_for_their_first_fault, words_faults_stand_from_the_left};
 pub use faults::{HotkeyFault, HotkeyKind};
 pub use forms::ActionForm;
-pub use laws::{chords_again, key_again, line_again, words_again};
+pub use laws::printed_hotkeys_are_read;
 pub use lists::ActionList;
 pub use meaning::{action_words, trigger};
 pub use names::{Deed, TriggerKind};
 pub use printing::{between, put_action, put_trigger};
 pub use shapes::{HotkeyForm, hotkey, is_hotkey};
 pub use spelling_laws::{
-    actions_are_spelled, chord_words_are_spelled, hotkeys_are_spelled,
-    hotkeys_begin_with_their_word, hotkeys_stop_where_they_cannot_go_on, six_turns_are_enough,
-    triggers_are_spelled,
+    actions_are_spelled, hotkeys_are_spelled, hotkeys_begin_with_their_word,
+    hotkeys_stop_where_they_cannot_go_on, triggers_are_spelled,
 };

@@ -64,23 +64,19 @@ fn with_modifier(mods: Mask, word: Word<'_>) -> Result<Mask, HotkeyFault>
     )
 }
 
-/// The modifiers in front of the last word, and the line from that word on.
-fn mods(bytes: &[u8]) -> Result<(Mask, &[u8]), HotkeyFault>
-    ensures { Gives (λ x. (x.0, x.1.now)) result (mods_at bytes.now) }
+/// The modifiers in front of the last word, that word, and what follows it.
+fn mods(bytes: &[u8]) -> Result<(Mask, Word<'_>, &[u8]), HotkeyFault>
+    ensures { Gives (λ x. (x.0, word_text x.1, x.2.now)) result (mods_at bytes.now) }
 {
     let mut mods = Mask(0);
-    let mut rest = bytes;
-    for _turn in 0..CLASSES.len() + 1 {
-        let (word, behind) = run(rest, WordKind::Chord);
-        match maybe_sign(behind, b'+') {
-            None => return Ok((mods, rest)),
-            Some(next) => {
-                mods = with_modifier(mods, word)?;
-                rest = next;
-            }
-        }
+    let (mut word, mut behind) = run(bytes, WordKind::Chord);
+    while let Some(rest) = maybe_sign(behind, b'+') {
+        mods = with_modifier(mods, word)?;
+        let (next, after) = run(rest, WordKind::Chord);
+        word = next;
+        behind = after;
     }
-    Ok((mods, rest))
+    Ok((mods, word, behind))
 }
 
 /// Nothing, where the argument ends there. Else a word more stands in it.
@@ -105,8 +101,7 @@ fn allowed(modifiers: bool, id: Option<KeyId>) -> Option<KeyId>
 pub(crate) fn key_chord(bytes: &[u8], modifiers: bool) -> Result<KeyChord, HotkeyFault>
     ensures { result ≡ key_chord_at modifiers bytes.now }
 {
-    let (mods, rest) = mods(bytes)?;
-    let (word, rest) = run(rest, WordKind::Chord);
+    let (mods, word, rest) = mods(bytes)?;
     let id = found(
         allowed(modifiers, key_named(word.text)),
         HotkeyKind::UnknownKey,
@@ -132,8 +127,7 @@ fn button_of(number: Option<u32>) -> Option<MouseButton>
 pub(crate) fn mouse_chord(bytes: &[u8]) -> Result<MouseChord, HotkeyFault>
     ensures { result ≡ mouse_chord_at bytes.now }
 {
-    let (mods, rest) = mods(bytes)?;
-    let (word, rest) = run(rest, WordKind::Chord);
+    let (mods, word, rest) = mods(bytes)?;
     let b = found(
         button_of(decimal(word.text, 255)),
         HotkeyKind::BadValue,

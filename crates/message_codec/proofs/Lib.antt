@@ -16,3 +16,5 @@ pub mod RowFields
 pub mod ShortFields
 pub mod SpelledOrRefused
 pub mod WordLoop
+pub mod BodyVerdicts
+pub mod InboxVerdicts

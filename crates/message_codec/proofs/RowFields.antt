@@ -18,7 +18,7 @@ use Rattle.message_codec.specs.Kinds as kind
 use Rattle.message_codec.specs.Fields.{Field, Byte, Half, Signed, Word, Clip, Mark, Text, Words, kind_of}
 use Rattle.message_codec.specs.Table.{kinds, code_of, fields}
 use Rattle.message_codec.specs.Refusals.{Misfits}
-use Rattle.message_codec.proofs.Building.{the_signed, the_number, the_list, field_at, built}
+use Rattle.message_codec.specs.Messages.{the_signed, the_number, the_list, field_at, built}
 use Rattle.message_codec.proofs.Misfits.{grab_misfits, clip_misfits, mark_misfits}
 
 -- ---- fields by their kinds

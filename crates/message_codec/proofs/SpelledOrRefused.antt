@@ -34,7 +34,7 @@ sends_or_not both from = inl tt
 
 -- ---- what was read
 
-spells_read : (from : End) (body : List ℕ) (m : Msg) (fs : List Field) → IsBytes body → (r : Reads from body (Ok (fs, []))) → code_of m ≡ r.code → fields m ≡ fs → Spells from m body
+pub spells_read : (from : End) (body : List ℕ) (m : Msg) (fs : List Field) → IsBytes body → (r : Reads from body (Ok (fs, []))) → code_of m ≡ r.code → fields m ≡ fs → Spells from m body
 spells_read from body m fs small r codes same =
     let as_fields : Reads from body (Ok (fields m, [])) =
     record { code = r.code; sent = r.sent; after = r.after; begins = r.begins; reading = r.reading ∙ ap (λ (gs : List Field). Ok (gs, [])) (sym same) } in

@@ -4,6 +4,7 @@ pub mod Fields
 pub mod Reading
 pub mod Table
 pub mod Codes
+pub mod Messages
 pub mod Spelling
 pub mod Drafts
 pub mod Refusals
@@ -13,3 +14,5 @@ pub mod FieldViews
 pub mod Showing
 pub mod Streams
 pub mod Verdicts
+pub mod BodyVerdicts
+pub mod Inboxes

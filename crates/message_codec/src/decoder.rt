@@ -3,6 +3,7 @@
 ghost use Rattle.std.specs.Prelude.{◌≤◌, IfOk, IfErr, length};
 ghost use Rattle.message_codec.specs.Spelling.{Spells};
 ghost use Rattle.message_codec.specs.Refusals.{RefusedFor};
+ghost use Rattle.wire_frames.specs.declared.limits.TheConstants.{BODY_LIMIT};
 
 use crate::coding::Code;
 use crate::drafts::finish;
@@ -11,7 +12,6 @@ use crate::messages::{End, Msg};
 use crate::reading::ReadError;
 use crate::rows::draft_at;
 use std::alloc::Global;
-use wire_frames::BODY_LIMIT;
 
 /// Decodes the body of a message sent by `from`, of at most `BODY_LIMIT` bytes. A string or a list is
 /// copied into memory from `alloc`.

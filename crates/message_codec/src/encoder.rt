@@ -9,11 +9,11 @@ ghost use Rattle.message_codec.specs.Table.{fields, code_of, SentBy};
 ghost use Rattle.message_codec.specs.Spelling.{body_of, Spells};
 ghost use Rattle.message_codec.specs.FieldViews.{seen};
 ghost use Rattle.share_base.specs.Fronts.{IsFront};
+ghost use Rattle.wire_frames.specs.declared.limits.TheConstants.{BODY_LIMIT};
 
 use crate::fields::{FieldRef, code, count, field};
 use crate::messages::Msg;
 use share_base::{Octets, OutOfMemory};
-use wire_frames::BODY_LIMIT;
 
 fn field_len(part: FieldRef<'_>) -> u64
     ensures value { result ≡ length (spelled (seen part.entry)) }

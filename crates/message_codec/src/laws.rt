@@ -10,6 +10,8 @@ ghost use Rattle.message_codec.specs.Refusals.{Refuses, RefusedFor};
 ghost use Rattle.message_codec.specs.Decoding.{IsDecoded};
 ghost use Rattle.message_codec.specs.Streams.{Reader, AreBytes};
 ghost use Rattle.message_codec.specs.Verdicts.{Verdict};
+ghost use Rattle.message_codec.specs.BodyVerdicts.{body_verdict, IsVerdictOn};
+ghost use Rattle.message_codec.specs.Inboxes.{inbox, HasVerdict};
 
 /// No body spells two messages of one end.
 pub fn one_message()
@@ -54,4 +56,16 @@ pub fn each_has_a_verdict()
 pub fn one_verdict()
     ensures { (reader : Reader) (stream : List ℕ) (a b : Verdict reader stream)
         → (a.messages ≡ b.messages) × (a.rest ≡ b.rest) × (a.place ≡ b.place) × (a.bad ≡ b.bad) }
+{}
+
+/// The verdict that is computed on a body is right: the message that it spells, or the fault for which it
+/// is refused.
+pub fn body_is_judged()
+    ensures { (from : End) (body : List ℕ) → AreBytes body → IsVerdictOn from body (body_verdict from body) }
+{}
+
+/// What is computed of a stream, byte by byte, is the one verdict on it.
+pub fn inbox_has_the_verdict()
+    ensures { (reader : Reader) (stream : List ℕ) → AreBytes stream → (v : Verdict reader stream)
+        → HasVerdict v (inbox reader stream) }
 {}

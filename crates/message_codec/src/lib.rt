@@ -25,8 +25,8 @@ pub use decoder::decode;
 pub use encoder::{body_len, encode};
 pub use faults::{BadBody, DecodeFault};
 pub use laws::{
-    each_has_a_verdict, one_message, one_refusal, one_verdict, refused_spells_none,
-    spelled_is_decoded, spelled_or_refused,
+    body_is_judged, each_has_a_verdict, inbox_has_the_verdict, one_message, one_refusal,
+    one_verdict, refused_spells_none, spelled_is_decoded, spelled_or_refused,
 };
 pub use messages::{End, Msg};
 pub use show_line::show;

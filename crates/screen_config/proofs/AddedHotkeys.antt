@@ -6,10 +6,13 @@ use Rattle.std.proofs.lemmas.List.{length-map}
 use Rattle.hotkey_rules.specs.declared.action.Action.{Action}
 use Rattle.hotkey_rules.specs.declared.trigger.Trigger.{Trigger}
 use Rattle.hotkey_rules.specs.declared.rule.Rule.{Rule}
-use Rattle.hotkey_rules.specs.Rules.{most, rule_of}
+use Rattle.hotkey_rules.specs.Rules.{rule_of}
+use Rattle.hotkey_rules.specs.declared.rules.TheConstants.{MOST_RULES}
 use Rattle.screen_config.specs.declared.hotkeys.HotkeysFault.{HotkeysFault}
 use Rattle.screen_config.specs.declared.hotkeys.HotkeysFault.TheVariants as fault
-use Rattle.screen_config.specs.ActionKeys.{most_actions, most_action_keys, keys_in, with_keys, actions_in, action_keys, with_button}
+use Rattle.screen_config.specs.ActionKeys.{keys_in, with_keys, actions_in, action_keys, with_button}
+use Rattle.screen_config.specs.declared.hotkeys.TheConstants.{MOST_ACTIONS}
+use Rattle.screen_config.specs.declared.action_keys.TheConstants.{MOST_ACTION_KEYS}
 use Rattle.screen_config.specs.AddingHotkeys.{keys_with, has_room, next_rule}
 use Rattle.screen_config.specs.AddingHotkeys.{AddsHotkey, AddsKeys, AreCounted}
 use Rattle.screen_config.proofs.KeyPlaces.{with_keys_append, longer, keys_in_append}
@@ -17,31 +20,31 @@ use Rattle.screen_config.proofs.SoundHotkeys.{actions_with, keys_after}
 
 -- ---- room, and none
 
-pub no_room_for_rule : (hotkeys : List Rule) (acts : List Action) → length hotkeys ≡ most → has_room hotkeys acts ≡ false
+pub no_room_for_rule : (hotkeys : List Rule) (acts : List Action) → length hotkeys ≡ MOST_RULES → has_room hotkeys acts ≡ false
 unfolding has_room
 no_room_for_rule hotkeys acts h =
-    and_left _ (nat_le (length (actions_in hotkeys) + length acts) most_actions)
-    (and_left (nat_lt (length hotkeys) most) (nat_le (length (keys_with hotkeys acts)) most_action_keys) (le-ltb (length hotkeys) most (omega arith)))
+    and_left _ (nat_le (length (actions_in hotkeys) + length acts) MOST_ACTIONS)
+    (and_left (nat_lt (length hotkeys) MOST_RULES) (nat_le (length (keys_with hotkeys acts)) MOST_ACTION_KEYS) (le-ltb (length hotkeys) MOST_RULES (omega arith)))
 
-no_room_for_keys : (hotkeys : List Rule) (acts : List Action) → most_action_keys < length (keys_with hotkeys acts) → has_room hotkeys acts ≡ false
+no_room_for_keys : (hotkeys : List Rule) (acts : List Action) → MOST_ACTION_KEYS < length (keys_with hotkeys acts) → has_room hotkeys acts ≡ false
 unfolding has_room
 no_room_for_keys hotkeys acts h =
-    and_left _ (nat_le (length (actions_in hotkeys) + length acts) most_actions)
-    (and_right (nat_lt (length hotkeys) most) (nat_le (length (keys_with hotkeys acts)) most_action_keys) (lt-leb (length (keys_with hotkeys acts)) most_action_keys h))
+    and_left _ (nat_le (length (actions_in hotkeys) + length acts) MOST_ACTIONS)
+    (and_right (nat_lt (length hotkeys) MOST_RULES) (nat_le (length (keys_with hotkeys acts)) MOST_ACTION_KEYS) (lt-leb (length (keys_with hotkeys acts)) MOST_ACTION_KEYS h))
 
-no_room_for_actions : (hotkeys : List Rule) (acts : List Action) → most_actions < length (actions_in hotkeys) + length acts → has_room hotkeys acts ≡ false
+no_room_for_actions : (hotkeys : List Rule) (acts : List Action) → MOST_ACTIONS < length (actions_in hotkeys) + length acts → has_room hotkeys acts ≡ false
 unfolding has_room
 no_room_for_actions hotkeys acts h =
-    and_right (nat_lt (length hotkeys) most && nat_le (length (keys_with hotkeys acts)) most_action_keys) _ (lt-leb (length (actions_in hotkeys) + length acts) most_actions h)
+    and_right (nat_lt (length hotkeys) MOST_RULES && nat_le (length (keys_with hotkeys acts)) MOST_ACTION_KEYS) _ (lt-leb (length (actions_in hotkeys) + length acts) MOST_ACTIONS h)
 
-has_all_room : (hotkeys : List Rule) (acts : List Action) → length hotkeys < most → length (keys_with hotkeys acts) ≤ most_action_keys
-    → length (actions_in hotkeys) + length acts ≤ most_actions → has_room hotkeys acts ≡ true
+has_all_room : (hotkeys : List Rule) (acts : List Action) → length hotkeys < MOST_RULES → length (keys_with hotkeys acts) ≤ MOST_ACTION_KEYS
+    → length (actions_in hotkeys) + length acts ≤ MOST_ACTIONS → has_room hotkeys acts ≡ true
 unfolding has_room
 has_all_room hotkeys acts rules keys actions =
-    and_from _ _ (and_from _ _ (lt-ltb (length hotkeys) most rules) (le-leb (length (keys_with hotkeys acts)) most_action_keys keys))
-    (le-leb (length (actions_in hotkeys) + length acts) most_actions actions)
+    and_from _ _ (and_from _ _ (lt-ltb (length hotkeys) MOST_RULES rules) (le-leb (length (keys_with hotkeys acts)) MOST_ACTION_KEYS keys))
+    (le-leb (length (actions_in hotkeys) + length acts) MOST_ACTIONS actions)
 
-pub too_many_actions : (hotkeys : List Rule) (keys : List ℕ) (n : ℕ) (press release : List Action) → AreCounted hotkeys keys n → most_actions < n + (length press + length release)
+pub too_many_actions : (hotkeys : List Rule) (keys : List ℕ) (n : ℕ) (press release : List Action) → AreCounted hotkeys keys n → MOST_ACTIONS < n + (length press + length release)
     → has_room hotkeys (press ++ release) ≡ false
 too_many_actions hotkeys keys n press release s h =
     no_room_for_actions hotkeys (press ++ release) (omega (arith, s.actions_are, length-append press release))
@@ -72,11 +75,11 @@ refused_by_release fault.OutOfMemory hotkeys keys first new t press release e g 
 -- ---- the hotkey added
 
 pub record IsAdded (hotkeys new : List Rule) (n : ℕ) (t : Trigger) (press release : List Action) (keys : List ℕ) : Type 0 where
-  pub few : length hotkeys < most
+  pub few : length hotkeys < MOST_RULES
   pub same : new ≡ hotkeys ++ rule_of t (map (with_button keys) press) (map (with_button keys) release) ∷ []
   pub keys_are : keys ≡ keys_with hotkeys (press ++ release)
-  pub few_keys : length keys ≤ most_action_keys
-  pub few_actions : n + (length press + length release) ≤ most_actions
+  pub few_keys : length keys ≤ MOST_ACTION_KEYS
+  pub few_actions : n + (length press + length release) ≤ MOST_ACTIONS
 
 as_next : (hotkeys new : List Rule) (n : ℕ) (t : Trigger) (press release : List Action) (keys : List ℕ) → IsAdded hotkeys new n t press release keys → new ≡ hotkeys ++ next_rule hotkeys t press release ∷ []
 as_next hotkeys new n t press release keys a =
@@ -85,7 +88,7 @@ as_next hotkeys new n t press release keys a =
 pub added_hotkey : (hotkeys new : List Rule) (kept : List ℕ) (n : ℕ) (t : Trigger) (press release : List Action) (keys : List ℕ) → AreCounted hotkeys kept n
     → IsAdded hotkeys new n t press release keys → (has_room hotkeys (press ++ release) ≡ true) × (new ≡ hotkeys ++ next_rule hotkeys t press release ∷ [])
 added_hotkey hotkeys new kept n t press release keys s a = (
-  has_all_room hotkeys (press ++ release) a.few (subst (λ (ks : List ℕ). length ks ≤ most_action_keys) a.keys_are a.few_keys)
+  has_all_room hotkeys (press ++ release) a.few (subst (λ (ks : List ℕ). length ks ≤ MOST_ACTION_KEYS) a.keys_are a.few_keys)
       (omega (arith, s.actions_are, a.few_actions, length-append press release)),
   as_next hotkeys new n t press release keys a,
 )

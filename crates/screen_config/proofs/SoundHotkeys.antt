@@ -11,9 +11,11 @@ use Rattle.hotkey_rules.specs.declared.action.Action.{Action}
 use Rattle.hotkey_rules.specs.declared.action.Action.TheVariants as action
 use Rattle.hotkey_rules.specs.declared.trigger.Trigger.{Trigger}
 use Rattle.hotkey_rules.specs.declared.rule.Rule.{Rule}
-use Rattle.hotkey_rules.specs.Rules.{most}
+use Rattle.hotkey_rules.specs.declared.rules.TheConstants.{MOST_RULES}
 use Rattle.hotkey_rules.specs.WellFormed.{is_trigger, is_action}
-use Rattle.screen_config.specs.ActionKeys.{most_actions, most_action_keys, keys_in, with_keys, actions_in, action_keys, with_button}
+use Rattle.screen_config.specs.ActionKeys.{keys_in, with_keys, actions_in, action_keys, with_button}
+use Rattle.screen_config.specs.declared.hotkeys.TheConstants.{MOST_ACTIONS}
+use Rattle.screen_config.specs.declared.action_keys.TheConstants.{MOST_ACTION_KEYS}
 use Rattle.screen_config.specs.AddingHotkeys.{keys_with, has_room, next_rule}
 use Rattle.screen_config.specs.AddingHotkeys.{AreCounted}
 use Rattle.screen_config.specs.SoundHotkeys.{action_below, is_action_among, HasItsButton, AreHotkeys}
@@ -99,19 +101,19 @@ all_given count keys (a ∷ actions) h =
 
 -- what room means
 record HasRoom (hotkeys : List Rule) (acts : List Action) : Type 0 where
-  rules : length hotkeys < most
-  keys : length (keys_with hotkeys acts) ≤ most_action_keys
-  actions : length (actions_in hotkeys) + length acts ≤ most_actions
+  rules : length hotkeys < MOST_RULES
+  keys : length (keys_with hotkeys acts) ≤ MOST_ACTION_KEYS
+  actions : length (actions_in hotkeys) + length acts ≤ MOST_ACTIONS
 
 room_for : (hotkeys : List Rule) (acts : List Action) → has_room hotkeys acts ≡ true → HasRoom hotkeys acts
 unfolding has_room
 room_for hotkeys acts h =
-    let parts = and_parts _ (nat_le (length (actions_in hotkeys) + length acts) most_actions) h in
-    let front = and_parts (nat_lt (length hotkeys) most) (nat_le (length (keys_with hotkeys acts)) most_action_keys) parts.0 in
+    let parts = and_parts _ (nat_le (length (actions_in hotkeys) + length acts) MOST_ACTIONS) h in
+    let front = and_parts (nat_lt (length hotkeys) MOST_RULES) (nat_le (length (keys_with hotkeys acts)) MOST_ACTION_KEYS) parts.0 in
     record {
-      rules = ltb-true (length hotkeys) most front.0;
-      keys = leb-true (length (keys_with hotkeys acts)) most_action_keys front.1;
-      actions = leb-true (length (actions_in hotkeys) + length acts) most_actions parts.1;
+      rules = ltb-true (length hotkeys) MOST_RULES front.0;
+      keys = leb-true (length (keys_with hotkeys acts)) MOST_ACTION_KEYS front.1;
+      actions = leb-true (length (actions_in hotkeys) + length acts) MOST_ACTIONS parts.1;
     }
 
 pub hotkeys_with : (count : ℕ) (hotkeys : List Rule) (trigger : Trigger) (press release : List Action) → AreHotkeys count hotkeys → is_trigger trigger ≡ true
@@ -129,8 +131,8 @@ hotkeys_with count hotkeys trigger press release s t p r h =
     let all_buttons = All-append (HasItsButton keys) (actions_in hotkeys) (map (with_button keys) (press ++ release)) old_buttons (given_buttons keys (press ++ release)) in
     record {
       few = omega (arith, length-append hotkeys (rule ∷ []), room.rules);
-      few_keys = subst (λ (ks : List ℕ). length ks ≤ most_action_keys) (sym after) room.keys;
-      few_actions = subst (λ (xs : List Action). length xs ≤ most_actions) (sym acts)
+      few_keys = subst (λ (ks : List ℕ). length ks ≤ MOST_ACTION_KEYS) (sym after) room.keys;
+      few_actions = subst (λ (xs : List Action). length xs ≤ MOST_ACTIONS) (sym acts)
           (omega (arith, length-append (actions_in hotkeys) (map (with_button keys) (press ++ release)), length-map (press ++ release) (with_button keys), room.actions));
       triggers = all_append (λ (rule : Rule). is_trigger rule.trigger) hotkeys (rule ∷ []) s.triggers (and_from (is_trigger trigger) true t refl);
       actions = ap (list_all (is_action_among count)) acts

@@ -6,13 +6,6 @@ use Rattle.hotkey_rules.specs.declared.action.Action.{Action}
 use Rattle.hotkey_rules.specs.declared.action.Action.TheVariants as action
 use Rattle.hotkey_rules.specs.declared.rule.Rule.{Rule}
 
--- how many action keys, and how many actions, a configuration has at most
-abbrev pub most_action_keys : ℕ
-most_action_keys = 256
-
-abbrev pub most_actions : ℕ
-most_actions = 4096
-
 -- the key of an action, where it has one
 abbrev pub key_in : Action → List ℕ
 key_in (action.KeyStroke id mods button) = id.0 ∷ []

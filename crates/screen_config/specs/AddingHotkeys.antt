@@ -3,10 +3,13 @@ use Rattle.std.specs.Prelude.{◌≡◌, ℕ, ◌+◌, ◌<◌, ◌≤◌, Bool,
 use Rattle.hotkey_rules.specs.declared.action.Action.{Action}
 use Rattle.hotkey_rules.specs.declared.trigger.Trigger.{Trigger}
 use Rattle.hotkey_rules.specs.declared.rule.Rule.{Rule}
-use Rattle.hotkey_rules.specs.Rules.{rule_of, most}
+use Rattle.hotkey_rules.specs.Rules.{rule_of}
+use Rattle.hotkey_rules.specs.declared.rules.TheConstants.{MOST_RULES}
 use Rattle.screen_config.specs.declared.hotkeys.HotkeysFault.{HotkeysFault}
 use Rattle.screen_config.specs.declared.hotkeys.HotkeysFault.TheVariants as fault
-use Rattle.screen_config.specs.ActionKeys.{most_actions, most_action_keys, keys_in, with_keys, actions_in, action_keys, with_button}
+use Rattle.screen_config.specs.ActionKeys.{keys_in, with_keys, actions_in, action_keys, with_button}
+use Rattle.screen_config.specs.declared.hotkeys.TheConstants.{MOST_ACTIONS}
+use Rattle.screen_config.specs.declared.action_keys.TheConstants.{MOST_ACTION_KEYS}
 
 -- the keys of these rules and of actions more
 abbrev pub keys_with : List Rule → List Action → List ℕ
@@ -15,9 +18,9 @@ keys_with hotkeys actions = with_keys (action_keys hotkeys) (keys_in actions)
 -- one rule more, with these actions, is within the limits
 unfoldable pub has_room : List Rule → List Action → Bool
 has_room hotkeys actions =
-    nat_lt (length hotkeys) most
-    && nat_le (length (keys_with hotkeys actions)) most_action_keys
-    && nat_le (length (actions_in hotkeys) + length actions) most_actions
+    nat_lt (length hotkeys) MOST_RULES
+    && nat_le (length (keys_with hotkeys actions)) MOST_ACTION_KEYS
+    && nat_le (length (actions_in hotkeys) + length actions) MOST_ACTIONS
 
 -- a rule of actions that have the buttons of these keys
 abbrev pub numbered : List ℕ → Trigger → List Action → List Action → Rule
@@ -35,13 +38,13 @@ AddsHotkey (Err fault.OutOfMemory) old trigger press release new = new ≡ old
 
 -- the answer's cause, and the keys after it. At a fault some may have been added.
 abbrev pub AddsKeys : Result (Unit {0}) HotkeysFault → List ℕ → List ℕ → List ℕ → Type 0
-AddsKeys (Ok _) old ids new = (new ≡ with_keys old ids) × (length new ≤ most_action_keys)
-AddsKeys (Err fault.Full) old ids new = most_action_keys < length (with_keys old ids)
+AddsKeys (Ok _) old ids new = (new ≡ with_keys old ids) × (length new ≤ MOST_ACTION_KEYS)
+AddsKeys (Err fault.Full) old ids new = MOST_ACTION_KEYS < length (with_keys old ids)
 AddsKeys (Err fault.OutOfMemory) old ids new = Unit {0}
 
 -- the keys of the actions of these rules, and how many actions there are
 pub record AreCounted (hotkeys : List Rule) (keys : List ℕ) (actions : ℕ) : Type 0 where
   pub keys_are : keys ≡ action_keys hotkeys
-  pub few_keys : length keys ≤ most_action_keys
+  pub few_keys : length keys ≤ MOST_ACTION_KEYS
   pub actions_are : actions ≡ length (actions_in hotkeys)
-  pub few_actions : actions ≤ most_actions
+  pub few_actions : actions ≤ MOST_ACTIONS

@@ -8,17 +8,12 @@ use Rattle.share_base.specs.Names.{is_name, same_name}
 use Rattle.screen_links.specs.declared.link.Link.{Link}
 use Rattle.screen_links.specs.Apart.{AreSound}
 use Rattle.option_table.specs.Standing.{are_settings, stands_below_screen, stands_for_all}
+use Rattle.share_base.specs.declared.screen_set.TheConstants.{MOST_SCREENS}
+use Rattle.screen_config.specs.declared.config.TheConstants.{MOST_ALIASES}
 use Rattle.screen_config.specs.declared.screens.Screen.{Screen}
 use Rattle.screen_config.specs.declared.screens.Alias.{Alias}
 use Rattle.screen_config.specs.Configurations.{Configuration}
 use Rattle.screen_config.specs.SoundHotkeys.{AreHotkeys}
-
--- how many screens and aliases there are at most
-abbrev pub most_screens : ℕ
-most_screens = 64
-
-abbrev pub most_aliases : ℕ
-most_aliases = 256
 
 abbrev pub alias_below : ℕ → Alias → Bool
 alias_below count a = nat_lt a.screen count
@@ -43,8 +38,8 @@ abbrev pub has_own_settings : Screen → Bool
 has_own_settings s = are_settings stands_below_screen s.settings
 
 pub record IsSound (c : Configuration) : Type 0 where
-  pub screens : length c.screens ≤ most_screens
-  pub aliases : length c.aliases ≤ most_aliases
+  pub screens : length c.screens ≤ MOST_SCREENS
+  pub aliases : length c.aliases ≤ MOST_ALIASES
   pub of_screens : list_all (alias_below (length c.screens)) c.aliases ≡ true
   pub between_screens : list_all (link_below (length c.screens)) c.links ≡ true
   pub named : list_all is_name (all_names c) ≡ true

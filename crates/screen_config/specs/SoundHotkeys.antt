@@ -5,9 +5,11 @@ use Rattle.std.specs.List.{list_all, All}
 use Rattle.hotkey_rules.specs.declared.action.Action.{Action}
 use Rattle.hotkey_rules.specs.declared.action.Action.TheVariants as action
 use Rattle.hotkey_rules.specs.declared.rule.Rule.{Rule}
-use Rattle.hotkey_rules.specs.Rules.{most}
+use Rattle.hotkey_rules.specs.declared.rules.TheConstants.{MOST_RULES}
 use Rattle.hotkey_rules.specs.WellFormed.{is_trigger, is_action}
-use Rattle.screen_config.specs.ActionKeys.{most_actions, most_action_keys, actions_in, action_keys, with_button}
+use Rattle.screen_config.specs.ActionKeys.{actions_in, action_keys, with_button}
+use Rattle.screen_config.specs.declared.hotkeys.TheConstants.{MOST_ACTIONS}
+use Rattle.screen_config.specs.declared.action_keys.TheConstants.{MOST_ACTION_KEYS}
 
 -- where it switches to a screen, that screen is one of so many
 abbrev pub action_below : ℕ → Action → Bool
@@ -30,9 +32,9 @@ HasItsButton keys a = with_button keys a ≡ a
 
 -- hotkeys among so many screens
 pub record AreHotkeys (count : ℕ) (hotkeys : List Rule) : Type 0 where
-  pub few : length hotkeys ≤ most
-  pub few_keys : length (action_keys hotkeys) ≤ most_action_keys
-  pub few_actions : length (actions_in hotkeys) ≤ most_actions
+  pub few : length hotkeys ≤ MOST_RULES
+  pub few_keys : length (action_keys hotkeys) ≤ MOST_ACTION_KEYS
+  pub few_actions : length (actions_in hotkeys) ≤ MOST_ACTIONS
   pub triggers : list_all (λ rule. is_trigger rule.trigger) hotkeys ≡ true
   pub actions : list_all (is_action_among count) (actions_in hotkeys) ≡ true
   pub buttons : All (HasItsButton (action_keys hotkeys)) (actions_in hotkeys)

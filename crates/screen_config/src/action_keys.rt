@@ -11,8 +11,8 @@ use hotkey_rules::{Action, Actions};
 use share_base::{Button, OutOfMemory};
 use std::alloc::Global;
 
-/// How many keys there are at most.
-const MOST: usize = 256;
+/// How many keys actions have at most.
+pub const MOST_ACTION_KEYS: usize = 256;
 
 /// The button of the first key. The others follow it.
 const FIRST_BUTTON: u16 = 0xf000;
@@ -40,13 +40,13 @@ fn has_key(keys: &[u16], id: u16) -> bool
 }
 
 fn add_key(keys: &mut Vec<u16>, id: u16) -> Result<(), HotkeysFault>
-    requires { length keys.old.items ≤ 256 }
+    requires { length keys.old.items ≤ MOST_ACTION_KEYS }
     ensures { AddsKeys result keys.old.items (id ∷ []) keys.new.items }
 {
     if has_key(keys.as_slice(), id) {
         return Ok(());
     }
-    if keys.len() >= MOST {
+    if keys.len() >= MOST_ACTION_KEYS {
         return Err(HotkeysFault::Full);
     }
     match keys.push(id) {
@@ -56,7 +56,7 @@ fn add_key(keys: &mut Vec<u16>, id: u16) -> Result<(), HotkeysFault>
 }
 
 fn add_key_of(keys: &mut Vec<u16>, action: Action) -> Result<(), HotkeysFault>
-    requires { length keys.old.items ≤ 256 }
+    requires { length keys.old.items ≤ MOST_ACTION_KEYS }
     ensures { AddsKeys result keys.old.items (key_in action) keys.new.items }
 {
     match key_of(action) {
@@ -68,7 +68,7 @@ fn add_key_of(keys: &mut Vec<u16>, action: Action) -> Result<(), HotkeysFault>
 /// Adds the keys of actions that aren't there yet. `Full` comes exactly where there would be more than 256;
 /// after a fault some of them may have been added.
 pub(crate) fn add_keys(keys: &mut Vec<u16>, actions: &[Action]) -> Result<(), HotkeysFault>
-    requires { length keys.old.items ≤ 256 }
+    requires { length keys.old.items ≤ MOST_ACTION_KEYS }
     ensures { AddsKeys result keys.old.items (keys_in actions.now) keys.new.items }
 {
     let mut rest = actions;
@@ -89,7 +89,7 @@ fn place_of(keys: &[u16], id: u16) -> Option<usize>
 }
 
 fn button_of(keys: &[u16], id: u16) -> Button
-    requires { length keys.now ≤ 256 }
+    requires { length keys.now ≤ MOST_ACTION_KEYS }
     ensures { result ≡ spec.button_of keys.now id }
 {
     let place = place_of(keys, id).unwrap_or(keys.len());
@@ -98,7 +98,7 @@ fn button_of(keys: &[u16], id: u16) -> Button
 
 #[tactic(auto, unfolding(crate::specs::ActionKeys::with_button))]
 fn with_button(keys: &[u16], action: Action) -> Action
-    requires { length keys.now ≤ 256 }
+    requires { length keys.now ≤ MOST_ACTION_KEYS }
     ensures { result ≡ spec.with_button keys.now action }
 {
     match action {
@@ -132,7 +132,7 @@ pub(crate) fn numbered(
     keys: &[u16],
     actions: &[Action],
 ) -> Result<Actions, OutOfMemory>
-    requires { length keys.now ≤ 256 }
+    requires { length keys.now ≤ MOST_ACTION_KEYS }
     ensures { IfOk result (λ given. given ≡ map (spec.with_button keys.now) actions.now) }
 {
     let mut given = Actions::new(alloc);

@@ -11,12 +11,9 @@ ghost use Rattle.screen_config.specs.Keyed.{small};
 use crate::screens::Screen;
 use indexmap::IndexMap;
 use option_table::OptionName;
-use share_base::{OutOfMemory, ScreenName};
+use share_base::{LONGEST_NAME, OutOfMemory, ScreenName};
 use std::alloc::Global;
 use std::marker::Model;
-
-/// How many bytes a name has at most.
-const LONGEST: usize = 255;
 
 /// A value that has a screen's name.
 pub(crate) trait Named: Drop {
@@ -48,11 +45,11 @@ impl<T: Named> Model for ByName<T> {
     ghost invariant = { λ b. AreKeyed T.name_of b.values.entries };
 }
 
-fn in_small_letters(name: &[u8]) -> [u8; LONGEST]
-    requires { length name.now ≤ 255 }
+fn in_small_letters(name: &[u8]) -> [u8; LONGEST_NAME]
+    requires { length name.now ≤ LONGEST_NAME }
     ensures { take (length name.now) result ≡ small name.now }
 {
-    let mut letters = [0; LONGEST];
+    let mut letters = [0; LONGEST_NAME];
     let part = &mut letters[..name.len()];
     part.copy_from_slice(name);
     part.make_ascii_lowercase();
@@ -92,7 +89,7 @@ impl<T: Named> ByName<T> {
         ensures within { IfSome result (λ n. n < length self.now) }
     {
         let values = &self.values;
-        if name.len() > LONGEST {
+        if name.len() > LONGEST_NAME {
             return None;
         }
         let key = in_small_letters(name);

@@ -21,9 +21,12 @@ use crate::screens::{Alias, Screen};
 use hotkey_rules::{Action, Rules, Trigger};
 use option_table::{OptionName, Settings};
 use screen_links::{Link, LinkFault, Links};
-use share_base::{OutOfMemory, ScreenName, ScreenNo};
+use share_base::{MOST_SCREENS, OutOfMemory, ScreenName, ScreenNo};
 use std::alloc::Global;
 use std::marker::Model;
+
+/// How many aliases there are at most.
+pub const MOST_ALIASES: usize = 256;
 
 /// A configuration: its screens with their own options, their aliases and links, the options for all
 /// screens, and the hotkeys. It is made by `parse` alone. Contracts see a `Configuration`.
@@ -90,7 +93,7 @@ impl Config {
     /// a text can spell its hotkeys.
     pub fn count(&self) -> u16
         ensures count { result ≡ length self.now.screens }
-        ensures bound { length self.now.screens ≤ 64 }
+        ensures bound { length self.now.screens ≤ MOST_SCREENS }
         ensures sound { IsSound self.now }
     {
         self.screens.as_slice().len() as u16
@@ -157,7 +160,7 @@ impl Config {
 
     /// A further screen, which has the number `count`. No screen or alias has its name.
     pub fn add_screen(&mut self, name: ScreenName) -> Result<(), OutOfMemory>
-        requires room { length self.old.screens < 64 }
+        requires room { length self.old.screens < MOST_SCREENS }
         requires named { is_name name ≡ true }
         requires unknown { screen_of self.old name ≡ None }
         ensures ok { OnOk result (self.new ≡ with_screen self.old name) }
@@ -171,7 +174,7 @@ impl Config {
 
     /// A further alias. No screen or alias has its name, and it isn't `end`, whose line closes a section.
     pub fn add_alias(&mut self, name: ScreenName, screen: u16) -> Result<(), OutOfMemory>
-        requires room { length self.old.aliases < 256 }
+        requires room { length self.old.aliases < MOST_ALIASES }
         requires known { screen < length self.old.screens }
         requires named { is_name name ≡ true }
         requires no_end { is_end name ≡ false }

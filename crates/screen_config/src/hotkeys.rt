@@ -9,8 +9,8 @@ use share_base::OutOfMemory;
 use std::alloc::Global;
 use std::marker::Model;
 
-/// How many actions there are at most.
-const MOST_ACTIONS: usize = 4096;
+/// How many actions all hotkeys have at most.
+pub const MOST_ACTIONS: usize = 4096;
 
 /// Why a hotkey was not added.
 #[derive(Clone, Copy, Debug, PartialEq, Eq)]

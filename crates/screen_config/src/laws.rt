@@ -3,7 +3,8 @@
 ghost use Rattle.std.specs.Prelude.{◌≡◌, ◌<◌, ℕ, List, true, Contains};
 ghost use Rattle.screen_links.specs.declared.link.Link.{Link as OneLink};
 ghost use Rattle.hotkey_rules.specs.declared.rule.Rule.{Rule as OneRule};
-ghost use Rattle.screen_config.specs.ActionKeys.{action_keys, button_of, has_key, keys_of_rules, most_action_keys, place_of};
+ghost use Rattle.screen_config.specs.ActionKeys.{action_keys, button_of, has_key, keys_of_rules, place_of};
+ghost use Rattle.screen_config.specs.declared.action_keys.TheConstants.{MOST_ACTION_KEYS};
 ghost use Rattle.screen_config.specs.Configurations.{Configuration};
 ghost use Rattle.screen_config.specs.declared.screens.Alias.{Alias as OneAlias};
 ghost use Rattle.screen_config.specs.Sound.{IsSound};
@@ -30,5 +31,5 @@ pub fn action_keys_are_numbered()
     ensures in_order { (hotkeys : List OneRule) (a b : ℕ) → place_of (keys_of_rules hotkeys) a < place_of (keys_of_rules hotkeys) b
         → place_of (action_keys hotkeys) a < place_of (action_keys hotkeys) b }
     ensures below { (count : ℕ) (hotkeys : List OneRule) (a : ℕ) → AreHotkeys count hotkeys → has_key (keys_of_rules hotkeys) a ≡ true
-        → place_of (action_keys hotkeys) a < most_action_keys }
+        → place_of (action_keys hotkeys) a < MOST_ACTION_KEYS }
 {}

@@ -15,8 +15,9 @@ mod hotkeys;
 mod laws;
 mod screens;
 
-pub use config::Config;
+pub use action_keys::MOST_ACTION_KEYS;
+pub use config::{Config, MOST_ALIASES};
 pub use globals::{Globals, Protocol};
-pub use hotkeys::HotkeysFault;
+pub use hotkeys::{HotkeysFault, MOST_ACTIONS};
 pub use laws::{action_keys_are_numbered, each_alias_is_in_the_value, each_link_is_in_the_value};
 pub use screens::{Alias, Screen};

@@ -5,3 +5,4 @@ pub mod Seen
 pub mod OneLink
 pub mod Onward
 pub mod OneLanding
+pub mod LandingAnswers

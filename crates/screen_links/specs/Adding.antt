@@ -6,6 +6,7 @@ use Rattle.screen_links.specs.declared.range.Range.{Range}
 use Rattle.screen_links.specs.declared.link.Link.{Link}
 use Rattle.screen_links.specs.declared.links.LinkFault.{LinkFault}
 use Rattle.screen_links.specs.declared.links.LinkFault.TheVariants as fault
+use Rattle.screen_links.specs.declared.links.TheConstants.{MOST_LINKS}
 use Rattle.screen_links.specs.Ranges.{IsGood, Meet}
 
 abbrev pub link_of : ScreenNo → Side → Range → ScreenNo → Range → Link
@@ -31,16 +32,12 @@ IsBlocked links link = Overlaps links link.from link.side link.range
 abbrev pub IsFree : List Link → Link → Type 0
 IsFree links link = IsBlocked links link → ⊥
 
--- how many links are held at most
-abbrev pub most : ℕ
-most = 1024
-
 -- the answer's cause, and the links after it: with the new one at the end, or as they were
 abbrev pub Adds : Result (Unit {0}) LinkFault → List Link → Link → List Link → Type 0
 Adds (Ok _) old link new =
-    HasGoodRanges link × IsFree old link × (length old < most) × (new ≡ old ++ link ∷ [])
+    HasGoodRanges link × IsFree old link × (length old < MOST_LINKS) × (new ≡ old ++ link ∷ [])
 Adds (Err fault.BadRange) old link new = (HasGoodRanges link → ⊥) × (new ≡ old)
 Adds (Err fault.Overlap) old link new = HasGoodRanges link × IsBlocked old link × (new ≡ old)
-Adds (Err fault.Full) old link new = HasGoodRanges link × IsFree old link × (length old ≡ most) × (new ≡ old)
+Adds (Err fault.Full) old link new = HasGoodRanges link × IsFree old link × (length old ≡ MOST_LINKS) × (new ≡ old)
 Adds (Err fault.OutOfMemory) old link new =
-    HasGoodRanges link × IsFree old link × (length old < most) × (new ≡ old)
+    HasGoodRanges link × IsFree old link × (length old < MOST_LINKS) × (new ≡ old)

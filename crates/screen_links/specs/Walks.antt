@@ -1,6 +1,7 @@
 -- A walk over links, from a place on a side of a screen to the next screen that is there.
 use Rattle.std.specs.Prelude.{◌≡◌, ◌≢◌, ◌↔◌, Option, Some, ℕ, ◌+◌, ◌-◌, ◌*◌, ◌/◌, ◌<◌, ◌≤◌, true, false, List, [], ◌∷◌, ◌++◌, map, All, AllPairs, Contains}
 use Rattle.share_base.specs.declared.shape.Side.{Side}
+use Rattle.share_base.specs.declared.screen_set.TheConstants.{MOST_SCREENS}
 use Rattle.share_base.specs.Screens.{has}
 use Rattle.screen_links.specs.declared.link.Link.{Link}
 use Rattle.screen_links.specs.declared.link.Landing.{Landing}
@@ -53,4 +54,4 @@ Lands links joined side at answer = (landing : Landing) → (answer ≡ Some lan
 
 -- the landing is on a screen, and on its side
 abbrev pub IsPlace : Landing → Type 0
-IsPlace landing = (landing.screen.0 < 64) × (landing.t < 1000000)
+IsPlace landing = (landing.screen.0 < MOST_SCREENS) × (landing.t < 1000000)

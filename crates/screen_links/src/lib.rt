@@ -15,8 +15,8 @@ mod range;
 mod tests;
 mod walk;
 
-pub use laws::{one_landing, pixel_again};
+pub use laws::{landing_is_across, one_landing, pixel_again};
 pub use link::{Landing, Link};
-pub use links::{LinkFault, Links};
+pub use links::{LinkFault, Links, MOST_LINKS};
 pub use places::{pixel, place};
-pub use range::Range;
+pub use range::{Range, SIDE_END};

@@ -7,12 +7,12 @@ ghost use Rattle.screen_links.specs.Walks.{Lands, IsPlace};
 use crate::link::{Landing, Link};
 use crate::range::Range;
 use crate::walk::walk;
-use share_base::{ScreenNo, ScreenSet, Side};
+use share_base::{MOST_SCREENS, ScreenNo, ScreenSet, Side};
 use std::alloc::Global;
 use std::marker::Model;
 
 /// How many links are held at most.
-const MOST: usize = 1024;
+pub const MOST_LINKS: usize = 1024;
 
 /// Why a link was not added. The variants stand in the order in which they are looked for.
 #[derive(Clone, Copy, Debug, PartialEq, Eq)]
@@ -66,8 +66,8 @@ impl Links {
         to: ScreenNo,
         onto: Range,
     ) -> Result<(), LinkFault>
-        requires leaves_a_screen { from.0 < 64 }
-        requires enters_a_screen { to.0 < 64 }
+        requires leaves_a_screen { from.0 < MOST_SCREENS }
+        requires enters_a_screen { to.0 < MOST_SCREENS }
         ensures { Adds result self.old (link_of from side range to onto) self.new }
     {
         if !range.is_good() || !onto.is_good() {
@@ -76,7 +76,7 @@ impl Links {
         if overlaps(self.links.as_slice(), from, side, range) {
             return Err(LinkFault::Overlap);
         }
-        if self.links.len() >= MOST {
+        if self.links.len() >= MOST_LINKS {
             return Err(LinkFault::Full);
         }
         let link = Link {
@@ -97,7 +97,7 @@ impl Links {
     /// are below 64, and `t` is below 1,000,000. `None` comes exactly where no chain leads to a joined
     /// screen. It takes no memory and follows at most 64 links.
     pub fn across(&self, joined: &ScreenSet, from: ScreenNo, side: Side, t: u32) -> Option<Landing>
-        requires from_a_screen { from.0 < 64 }
+        requires from_a_screen { from.0 < MOST_SCREENS }
         requires in_the_side { t < 1000000 }
         ensures walks { Lands self.now joined.now side (record { screen = from; t = t }) result }
         ensures within { IfSome result IsPlace }

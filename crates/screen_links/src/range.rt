@@ -3,6 +3,9 @@
 ghost use Rattle.std.specs.Prelude.{◌↔◌, IsTrue};
 ghost use Rattle.screen_links.specs.Ranges.{IsGood, Meet};
 
+/// Where a side ends, in hundredths of it.
+pub const SIDE_END: u8 = 100;
+
 /// A part of a screen's side, in hundredths of the side: from `a` on, and before `b`.
 #[derive(Clone, Copy, Debug, PartialEq, Eq)]
 pub struct Range {
@@ -17,7 +20,7 @@ impl Range {
     pub fn is_good(self) -> bool
         ensures { IsTrue result ↔ IsGood self }
     {
-        self.a < self.b && self.b <= 100
+        self.a < self.b && self.b <= SIDE_END
     }
 
     /// Whether some hundredth lies in both.

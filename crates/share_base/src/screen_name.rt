@@ -8,14 +8,14 @@ ghost use Rattle.share_base.specs.Names.{is_name, same_name};
 use std::marker::Model;
 
 /// How many bytes a name has at most.
-const LONGEST: usize = 255;
+pub const LONGEST_NAME: usize = 255;
 
 /// A name of 1 to 255 bytes: parts with dots between them, and optionally one dot after the last. A part
 /// is made of letters, digits, `_` and `-`, and neither begins nor ends with `-`. Contracts see the
 /// list of its bytes. No method allocates.
 #[derive(Debug, Drop)]
 pub struct ScreenName {
-    bytes: [u8; LONGEST],
+    bytes: [u8; LONGEST_NAME],
     len: usize,
 }
 
@@ -38,7 +38,7 @@ impl ScreenName {
         if !is_screen_name(bytes) {
             return None;
         }
-        let mut kept = [0; LONGEST];
+        let mut kept = [0; LONGEST_NAME];
         let len = bytes.len();
         let part = &mut kept[..len];
         part.copy_from_slice(bytes);
@@ -116,7 +116,7 @@ fn is_screen_name(bytes: &[u8]) -> bool
     ensures is { result ≡ is_name bytes.now }
     ensures short { IsTrue result → length bytes.now ≤ 255 }
 {
-    if bytes.len() > LONGEST {
+    if bytes.len() > LONGEST_NAME {
         return false;
     }
     all_parts(undotted(bytes))

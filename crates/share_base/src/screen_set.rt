@@ -6,6 +6,9 @@ ghost use Rattle.share_base.specs.Screens.{has};
 use crate::numbers::ScreenNo;
 use std::marker::Model;
 
+/// How many screens a configuration has at most. Their numbers are below.
+pub const MOST_SCREENS: u16 = 64;
+
 /// A set of screens with numbers below 64. Contracts ask it by `has`. No method allocates.
 #[derive(Clone, Copy, Debug, PartialEq, Eq)]
 pub struct ScreenSet {

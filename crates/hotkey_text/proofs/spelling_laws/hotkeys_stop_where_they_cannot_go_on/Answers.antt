@@ -1,7 +1,5 @@
-use Rattle.text_lines.proofs.Stopping.{one_stop}
-use Rattle.hotkey_text.specs.Spelling.{IsHotkey}
 use Rattle.hotkey_text.proofs.StopsHotkeys.{hotkey_stops}
 use Rattle.hotkey_text.proofs.spelling_laws.hotkeys_stop_where_they_cannot_go_on.Goals as goal
 
 pub returns : goal.returns
-returns c = record { stops = hotkey_stops; one_place = one_stop IsHotkey }
+returns c = hotkey_stops
