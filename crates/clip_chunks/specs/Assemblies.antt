@@ -1,12 +1,14 @@
 -- What an assembly keeps and answers.
-use Rattle.std.specs.Prelude.{◌≡◌, ℕ, ◌+◌, ◌≤◌, not, ◌==◌, nat_le, List, ◌∷◌, length, Option, Some, None, IfSome, if◌then◌else◌}
+use Rattle.std.specs.Prelude.{◌≡◌, ℕ, ◌+◌, ◌≤◌, not, ◌==◌, nat_le, List, ◌∷◌, length, Option, Some}
+use Rattle.std.specs.Prelude.{None, IfSome, if◌then◌else◌}
 use Rattle.share_base.specs.declared.clip_id.ClipId.{ClipId}
 use Rattle.message_codec.specs.declared.clip_mark.ClipMark.{ClipMark}
 use Rattle.message_codec.specs.declared.clip_mark.ClipMark.TheVariants as mark
 use Rattle.clip_chunks.specs.declared.run.Run.{Run}
 use Rattle.clip_chunks.specs.declared.took.Took.{Took}
 use Rattle.clip_chunks.specs.declared.took.Took.TheVariants.{Started, Going, Whole, Dropped}
-use Rattle.clip_chunks.specs.declared.took.Cause.TheVariants.{BadSize, TooLarge, NoStart, SeqChanged, Over, Mismatch}
+use Rattle.clip_chunks.specs.declared.took.Cause.TheVariants.{BadSize, TooLarge, NoStart}
+use Rattle.clip_chunks.specs.declared.took.Cause.TheVariants.{SeqChanged, Over, Mismatch}
 use Rattle.clip_chunks.specs.Parts.{Part, part, of_clip}
 use Rattle.clip_chunks.specs.Wholes.{size_of, EndsWhole}
 use Rattle.clip_chunks.specs.OpenRuns.{open_run, run_after, whole_at}
@@ -32,7 +34,8 @@ abbrev pub chunk_answer : ℕ → List ℕ → Option Run → Took
 chunk_answer seq bytes None = Dropped NoStart
 chunk_answer seq bytes (Some r) =
     if not (r.seq == seq) then Dropped (SeqChanged r.seq seq) else
-    if nat_le (length r.bytes + length bytes) r.size then Going else Dropped (Over r.size (length r.bytes + length bytes))
+    if nat_le (length r.bytes + length bytes) r.size then Going
+    else Dropped (Over r.size (length r.bytes + length bytes))
 
 -- to an end
 abbrev pub end_answer : ℕ → Option Run → Took
@@ -59,13 +62,16 @@ Keeps old new mark seq bytes = new ≡ record old { run = run_after old.limit ma
 -- ---- over all calls
 
 -- the assembly keeps what a clipboard's parts leave, the newest first
-pub record StandsFor (limit : ℕ) (clip : ClipId) (a : AssemblyParts) (parts : List Part) : Type 0 where
+pub record StandsFor (limit : ℕ) (clip : ClipId) (a : AssemblyParts) (parts : List Part)
+    : Type 0 where
   pub limit_is : a.limit ≡ limit
   pub run_is : a.run ≡ open_run limit (of_clip clip parts)
 
 -- whatever parts it stood for, it stands for them and one more
 abbrev pub Takes : AssemblyParts → AssemblyParts → ClipMark → ℕ → List ℕ → Type 0
-Takes old new mark seq bytes = (limit : ℕ) (clip : ClipId) (parts : List Part) → StandsFor limit clip old parts → StandsFor limit clip new (part mark clip seq bytes ∷ parts)
+Takes old new mark seq bytes =
+    (limit : ℕ) (clip : ClipId) (parts : List Part) → StandsFor limit clip old parts
+    → StandsFor limit clip new (part mark clip seq bytes ∷ parts)
 
 -- the bytes that an answer gives
 abbrev pub whole_in : Took → Option (List ℕ)
@@ -79,7 +85,8 @@ abbrev pub GivesWhole : Took → ℕ → Part → List Part → Type 0
 GivesWhole (Whole bytes) limit newest older = EndsWhole limit bytes newest older
 GivesWhole Started limit newest older = (bytes : List ℕ) → EndsWhole limit bytes newest older → ⊥
 GivesWhole Going limit newest older = (bytes : List ℕ) → EndsWhole limit bytes newest older → ⊥
-GivesWhole (Dropped cause) limit newest older = (bytes : List ℕ) → EndsWhole limit bytes newest older → ⊥
+GivesWhole (Dropped cause) limit newest older =
+    (bytes : List ℕ) → EndsWhole limit bytes newest older → ⊥
 
 -- and it is what is found by the run that was open
 pub record IsRight (took : Took) (limit : ℕ) (newest : Part) (older : List Part) : Type 0 where
@@ -89,4 +96,5 @@ pub record IsRight (took : Took) (limit : ℕ) (newest : Part) (older : List Par
 -- whatever parts the assembly stood for, the answer to one more is right
 abbrev pub Answers : AssemblyParts → ClipMark → ℕ → List ℕ → Took → Type 0
 Answers old mark seq bytes took =
-    (limit : ℕ) (clip : ClipId) (parts : List Part) → StandsFor limit clip old parts → IsRight took limit (part mark clip seq bytes) parts
+    (limit : ℕ) (clip : ClipId) (parts : List Part) → StandsFor limit clip old parts
+    → IsRight took limit (part mark clip seq bytes) parts

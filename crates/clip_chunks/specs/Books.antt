@@ -25,7 +25,8 @@ pub record IsClip (kept : Kept) (c : Clip) : Type 0 where
 
 -- it is known, and all screens of the set but the owner are dirty
 abbrev pub IsKnown : Kept → ℕ → ℕ → List ℕ → ℕ → Type 0
-IsKnown kept owner seq bytes set = (screens : List ℕ) → AreIn set screens → IsClip kept (known owner seq bytes screens)
+IsKnown kept owner seq bytes set =
+    (screens : List ℕ) → AreIn set screens → IsClip kept (known owner seq bytes screens)
 
 -- whatever clipboard was kept, what is kept is what the rule makes of it
 abbrev pub Changes : Kept → Kept → (Clip → Clip) → Type 0
@@ -41,28 +42,36 @@ pub record StandsAt (book : ClipBook) (clips : Clips) : Type 0 where
 pub record Follows (old new : ClipBook) (call : Call) : Type 0 where
   pub primary : new.primary ≡ old.primary
   pub limit : new.limit ≡ old.limit
-  pub stands : (clips : Clips) → StandsAt old clips → StandsAt new (ruled old.primary.0 old.limit call clips)
+  pub stands : (clips : Clips) → StandsAt old clips
+      → StandsAt new (ruled old.primary.0 old.limit call clips)
 
 -- the same of a call with a set of screens, whose list may have any order
 abbrev pub FollowsWith : ℕ → ClipBook → ClipBook → (List ℕ → Call) → Type 0
-FollowsWith set old new call = (screens : List ℕ) → AreIn set screens → Follows old new (call screens)
+FollowsWith set old new call =
+    (screens : List ℕ) → AreIn set screens → Follows old new (call screens)
 
 -- ---- answers
 
 -- a grab counted where it counts for whatever clipboards the book stood at
 abbrev pub GrabAnswer : ClipBook → ClipId → ℕ → ℕ → Bool → Type 0
-GrabAnswer book clip given machine counts = (clips : Clips) → StandsAt book clips → counts ≡ grab_counts given machine (clip_of clip clips)
+GrabAnswer book clip given machine counts =
+    (clips : Clips) → StandsAt book clips → counts ≡ grab_counts given machine (clip_of clip clips)
 
 abbrev pub WholeAnswer : ClipBook → ClipId → ℕ → ℕ → ℕ → Bool → Type 0
-WholeAnswer book clip by given machine counts = (clips : Clips) → StandsAt book clips → counts ≡ whole_counts by given machine (clip_of clip clips)
+WholeAnswer book clip by given machine counts =
+    (clips : Clips) → StandsAt book clips
+    → counts ≡ whole_counts by given machine (clip_of clip clips)
 
 abbrev pub WasDirty : ClipBook → ClipId → ℕ → Bool → Type 0
-WasDirty book clip screen dirty = (clips : Clips) → StandsAt book clips → dirty ≡ is_dirty screen (clip_of clip clips)
+WasDirty book clip screen dirty =
+    (clips : Clips) → StandsAt book clips → dirty ≡ is_dirty screen (clip_of clip clips)
 
 -- the known bytes, where the screen was dirty; an answer comes exactly where it was
 abbrev pub Gives : ClipBook → ClipId → ℕ → Option (Bor (List ℕ)) → Type 0
 Gives book clip screen answer =
-    (clips : Clips) → StandsAt book clips → (option_map (λ (b : Bor (List ℕ)). b.now) answer ≡ given screen (clip_of clip clips)) × (is_some answer ≡ is_dirty screen (clip_of clip clips))
+    (clips : Clips) → StandsAt book clips
+    → (option_map (λ (b : Bor (List ℕ)). b.now) answer ≡ given screen (clip_of clip clips))
+    × (is_some answer ≡ is_dirty screen (clip_of clip clips))
 
 -- once the lent bytes are given back, the screen is clean
 abbrev pub RestsAfter : MutBor ClipBook → ClipId → ℕ → Fml

@@ -1,10 +1,12 @@
--- The state of the clipboards: who owns each, and which screens are still to be sent it. A screen is its number.
+-- The state of the clipboards: who owns each, and which screens are still to be sent it. A screen
+-- is its number.
 use Rattle.std.specs.Prelude.{ℕ, Bool, not, ◌==◌, List, filter, Option}
 use Rattle.std.specs.List.{list_any}
 use Rattle.share_base.specs.declared.clip_id.ClipId.{ClipId}
 use Rattle.share_base.specs.declared.clip_id.ClipId.TheVariants.{Clipboard, Selection}
 
--- the kept sequence is that of the latest copy, grab or whole that counted. The bytes are there where they are known
+-- the kept sequence is that of the latest copy, grab or whole that counted. The bytes are there
+-- where they are known
 pub record Clip : Type 0 where
   pub owner : ℕ
   pub seq : ℕ

@@ -1,4 +1,5 @@
--- The parts that a clipboard is sent in: a start that says its size, chunks of its bytes, and an end.
+-- The parts that a clipboard is sent in: a start that says its size, chunks of its bytes, and an
+-- end.
 use Rattle.std.specs.Prelude.{ℕ, Bool, ◌==◌, List, [], ◌∷◌, ◌++◌, map, filter, Option, Some, None}
 use Rattle.std.specs.List.{filter_map}
 use Rattle.share_base.specs.declared.clip_id.ClipId.{ClipId}
@@ -17,9 +18,12 @@ pub record Part : Type 0 where
 abbrev pub part : ClipMark → ClipId → ℕ → List ℕ → Part
 part mark clip seq bytes = record { clip = clip; seq = seq; mark = mark; bytes = bytes }
 
--- a start with those digits, chunks with those bytes, and an end, whose bytes are ignored, all of one clipboard and one sequence
+-- a start with those digits, chunks with those bytes, and an end, whose bytes are ignored, all of
+-- one clipboard and one sequence
 abbrev pub run : ClipId → ℕ → List ℕ → List (List ℕ) → List ℕ → List Part
-run clip seq digits chunks ignored = part mark.Start clip seq digits ∷ map (part mark.Chunk clip seq) chunks ++ part mark.End clip seq ignored ∷ []
+run clip seq digits chunks ignored =
+    part mark.Start clip seq digits ∷ map (part mark.Chunk clip seq) chunks
+    ++ part mark.End clip seq ignored ∷ []
 
 -- ---- messages
 

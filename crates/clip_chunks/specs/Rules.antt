@@ -1,6 +1,7 @@
--- The rules of a clipboard: what a copy, a grab and a whole change and when they count, and what becomes of it where
--- screens join, leave and are entered.
-use Rattle.std.specs.Prelude.{ℕ, Bool, ◌&&◌, ◌==◌, nat_le, List, [], ◌∷◌, length, Option, Some, None, if◌then◌else◌}
+-- The rules of a clipboard: what a copy, a grab and a whole change and when they count, and what
+-- becomes of it where screens join, leave and are entered.
+use Rattle.std.specs.Prelude.{ℕ, Bool, ◌&&◌, ◌==◌, nat_le, List, [], ◌∷◌, length, Option, Some}
+use Rattle.std.specs.Prelude.{None, if◌then◌else◌}
 use Rattle.clip_chunks.specs.Clips.{Clip, Clips, without, is_dirty}
 
 -- ---- when they count
@@ -19,9 +20,11 @@ whole_counts by given machine c = (c.owner == by) && nat_le c.seq given && nat_l
 
 -- ---- what they change
 
--- a copy makes bytes known as the primary's, with the machine's sequence, and a whole as its sender's, with its own: every joined screen but the owner is dirty
+-- a copy makes bytes known as the primary's, with the machine's sequence, and a whole as its
+-- sender's, with its own: every joined screen but the owner is dirty
 abbrev pub known : ℕ → ℕ → List ℕ → List ℕ → Clip
-known owner seq bytes screens = record { owner = owner; seq = seq; bytes = Some bytes; dirty = without screens owner }
+known owner seq bytes screens =
+    record { owner = owner; seq = seq; bytes = Some bytes; dirty = without screens owner }
 
 -- a grab makes them unknown as its sender's, with its sequence, and no screen is dirty
 abbrev pub unknown : ℕ → ℕ → Clip

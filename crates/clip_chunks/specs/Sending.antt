@@ -1,5 +1,6 @@
 -- How the bytes of a clipboard are cut into parts.
-use Rattle.std.specs.Prelude.{◌≡◌, ℕ, ◌+◌, ◌<◌, ◌≤◌, zero, suc, List, [], ◌∷◌, ◌++◌, length, take, drop, map, codes}
+use Rattle.std.specs.Prelude.{◌≡◌, ℕ, ◌+◌, ◌<◌, ◌≤◌, zero, suc, List, [], ◌∷◌, ◌++◌, length, take}
+use Rattle.std.specs.Prelude.{drop, map, codes}
 use Rattle.std.specs.Int.{w32, to_be_bytes}
 use Rattle.std.specs.Fmt.{decimal}
 use Rattle.std.specs.List.{concat}
@@ -15,7 +16,8 @@ use Rattle.clip_chunks.specs.OpenRuns.{wholes_among}
 abbrev pub cut_into : ℕ → ℕ → List ℕ → List (List ℕ)
 cut_into size zero bytes = []
 cut_into size (suc n) [] = []
-cut_into size (suc n) (byte ∷ bytes) = take size (byte ∷ bytes) ∷ cut_into size n (drop size (byte ∷ bytes))
+cut_into size (suc n) (byte ∷ bytes) =
+    take size (byte ∷ bytes) ∷ cut_into size n (drop size (byte ∷ bytes))
 
 -- how many bytes a full chunk has
 abbrev pub full_chunk : ℕ
@@ -38,7 +40,10 @@ parts_of clip seq bytes = run clip seq (decimal (length bytes)) (chunks_of bytes
 -- the frame of a part before its own bytes
 abbrev pub before_bytes : ClipId → ℕ → ClipMark → ℕ → List ℕ
 before_bytes clip seq mark len =
-    to_be_bytes w32 (14 + len) ++ (codes "DCLP" ++ (clip_number clip ∷ (to_be_bytes w32 seq ++ (mark_number mark ∷ to_be_bytes w32 len))))
+    to_be_bytes w32 (14 + len)
+    ++ (codes "DCLP"
+    ++ (clip_number clip
+    ∷ (to_be_bytes w32 seq ++ (mark_number mark ∷ to_be_bytes w32 len))))
 
 -- the frame of the message of one part
 abbrev pub part_frame : ClipMark → ClipId → ℕ → List ℕ → List ℕ
@@ -54,7 +59,9 @@ clip_frames clip seq bytes = part_frames (parts_of clip seq bytes)
 -- their messages hold one whole, of these bytes, for whoever takes as many
 abbrev pub HoldsOne : ClipId → ℕ → List ℕ → Type 0
 HoldsOne clip seq bytes =
-    (limit : ℕ) → length bytes ≤ limit → wholes_among limit (map message_of (parts_of clip seq bytes)) ≡ record { clip = clip; seq = seq; bytes = bytes } ∷ []
+    (limit : ℕ) → length bytes ≤ limit
+    → wholes_among limit (map message_of (parts_of clip seq bytes))
+    ≡ record { clip = clip; seq = seq; bytes = bytes } ∷ []
 
 -- the bytes are cut once, into full chunks and a last one
 abbrev pub IsCut : List ℕ → Type 0

@@ -3,7 +3,8 @@
 ghost use Rattle.std.specs.Prelude.{◌≡◌, [], None, IfOk, OnOk, OnErr};
 ghost use Rattle.share_base.specs.declared.clip_id.ClipId.{ClipId as Clip};
 ghost use Rattle.message_codec.specs.declared.clip_mark.ClipMark.TheVariants as mark;
-ghost use Rattle.clip_chunks.specs.Assemblies.{AssemblyParts, HoldsLittle, IsAnswer, Keeps, StandsFor, Takes, Answers};
+ghost use Rattle.clip_chunks.specs.Assemblies.{AssemblyParts, HoldsLittle, IsAnswer, Keeps};
+ghost use Rattle.clip_chunks.specs.Assemblies.{StandsFor, Takes, Answers};
 
 use crate::run::Run;
 use crate::size::size_of as read_size;
@@ -13,9 +14,9 @@ use share_base::{Octets, OutOfMemory};
 use std::alloc::Global;
 use std::marker::Model;
 
-/// Puts the parts of one clipboard together, as they come on one connection. It holds at most as many
-/// bytes as the latest start said, and allocates for them only as they come. Contracts see it as
-/// `AssemblyParts`, and as the result of the parts that it was given.
+/// Puts the parts of one clipboard together, as they come on one connection. It holds at most as
+/// many bytes as the latest start said, and allocates for them only as they come. Contracts see it
+/// as `AssemblyParts`, and as the result of the parts that it was given.
 #[derive(Drop)]
 pub struct Assembly {
     alloc: Global,
@@ -47,9 +48,9 @@ impl Assembly {
         }
     }
 
-    /// Takes the next part of the clipboard. A start replaces what was on its way, and after a `Dropped`
-    /// nothing is. The bytes of an end are ignored. On `OutOfMemory` nothing changes, as if the part had
-    /// not been given.
+    /// Takes the next part of the clipboard. A start replaces what was on its way, and after a
+    /// `Dropped` nothing is. The bytes of an end are ignored. On `OutOfMemory` nothing changes, as
+    /// if the part had not been given.
     pub fn take(&mut self, seq: u32, mark: ClipMark, bytes: &[u8]) -> Result<Took, OutOfMemory>
         ensures answer { IfOk result (λ took. IsAnswer self.old mark seq bytes.now took) }
         ensures kept { OnOk result (Keeps self.old self.new mark seq bytes.now) }

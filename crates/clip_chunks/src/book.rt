@@ -10,9 +10,9 @@ use crate::kept::Kept;
 use share_base::{ClipId, Octets, OutOfMemory, ScreenNo, ScreenSet};
 use std::alloc::Global;
 
-/// Both clipboards: who owns each, the sequence of the latest copy, grab or whole that counted, the bytes
-/// where they are known, and the dirty screens, which are still to be sent them. Screens have numbers
-/// below 64. Only `copied` and `whole` allocate.
+/// Both clipboards: who owns each, the sequence of the latest copy, grab or whole that counted, the
+/// bytes where they are known, and the dirty screens, which are still to be sent them. Screens have
+/// numbers below 64. Only `copied` and `whole` allocate.
 #[derive(Drop)]
 pub struct ClipBook {
     alloc: Global,
@@ -24,10 +24,12 @@ pub struct ClipBook {
 }
 
 impl ClipBook {
-    ghost use Rattle.clip_chunks.specs.Books.{StandsAt, Follows, FollowsWith, GrabAnswer, WholeAnswer, WasDirty, Gives, RestsAfter, kept_of, with_kept};
+    ghost use Rattle.clip_chunks.specs.Books.{StandsAt, Follows, FollowsWith, GrabAnswer};
+    ghost use Rattle.clip_chunks.specs.Books.{WholeAnswer, WasDirty, Gives, RestsAfter, kept_of};
+    ghost use Rattle.clip_chunks.specs.Books.{with_kept};
 
-    /// Makes both clipboards the primary's, with sequence 0 and unknown bytes. A copy may have at most
-    /// `limit` bytes, which are at most 4,194,304.
+    /// Makes both clipboards the primary's, with sequence 0 and unknown bytes. A copy may have at
+    /// most `limit` bytes, which are at most 4,194,304.
     pub fn new(alloc: Global, primary: ScreenNo, limit: u32) -> ClipBook
         requires screen { primary.0 < 64 }
         requires limit { limit ≤ 4194304 }
@@ -44,10 +46,10 @@ impl ClipBook {
         }
     }
 
-    /// Takes a copy that the primary made, at the machine's sequence and with these screens joined: the
-    /// primary owns the clipboard, its bytes are known, and every other joined screen is dirty. Returns
-    /// whether the copy counts, which it does unless it has more bytes than the limit. If it doesn't, or
-    /// on `OutOfMemory`, nothing changes.
+    /// Takes a copy that the primary made, at the machine's sequence and with these screens joined:
+    /// the primary owns the clipboard, its bytes are known, and every other joined screen is dirty.
+    /// Returns whether the copy counts, which it does unless it has more bytes than the limit. If
+    /// it doesn't, or on `OutOfMemory`, nothing changes.
     pub fn copied(
         &mut self,
         clip: ClipId,
@@ -71,9 +73,10 @@ impl ClipBook {
         Ok(true)
     }
 
-    /// Takes a grab by a client's screen, with the sequence of its message: the screen owns the clipboard,
-    /// its bytes are unknown, and no screen is dirty. Returns whether the grab counts, which it does if
-    /// its sequence is at least the kept one and at most the machine's. If it doesn't, nothing changes.
+    /// Takes a grab by a client's screen, with the sequence of its message: the screen owns the
+    /// clipboard, its bytes are unknown, and no screen is dirty. Returns whether the grab counts,
+    /// which it does if its sequence is at least the kept one and at most the machine's. If it
+    /// doesn't, nothing changes.
     pub fn grabbed(&mut self, clip: ClipId, by: ScreenNo, given: u32, machine: u32) -> bool
         ensures counts { GrabAnswer self.old clip given machine result }
         ensures follows { Follows self.old self.new (Grabbed clip by.0 given machine) }
@@ -86,11 +89,11 @@ impl ClipBook {
         true
     }
 
-    /// Takes a whole clipboard of at most 4,194,304 bytes from a client's screen, with the sequence of its
-    /// messages and with these screens joined: its bytes are known, and every joined screen but that one
-    /// is dirty. Returns whether it counts, which it does if the screen is the owner and the sequence is
-    /// at least the kept one and at most the machine's. If it doesn't, or on `OutOfMemory`, nothing
-    /// changes.
+    /// Takes a whole clipboard of at most 4,194,304 bytes from a client's screen, with the sequence
+    /// of its messages and with these screens joined: its bytes are known, and every joined screen
+    /// but that one is dirty. Returns whether it counts, which it does if the screen is the owner
+    /// and the sequence is at least the kept one and at most the machine's. If it doesn't, or on
+    /// `OutOfMemory`, nothing changes.
     pub fn whole(
         &mut self,
         clip: ClipId,
@@ -127,7 +130,8 @@ impl ClipBook {
         self.selection.join(no);
     }
 
-    /// Gives what a screen that left owned to the primary, with bytes, sequence and dirty screens unchanged.
+    /// Gives what a screen that left owned to the primary, with bytes, sequence and dirty screens
+    /// unchanged.
     pub fn left(&mut self, no: ScreenNo)
         ensures { Follows self.old self.new (Left no.0) }
     {
@@ -136,8 +140,8 @@ impl ClipBook {
         self.selection.leave(no, primary);
     }
 
-    /// Lends the known bytes to a dirty screen that was entered, and makes it clean. `None` if it isn't
-    /// dirty.
+    /// Lends the known bytes to a dirty screen that was entered, and makes it clean. `None` if it
+    /// isn't dirty.
     pub fn entered(&mut self, clip: ClipId, no: ScreenNo) -> Option<&[u8]>
         requires { no.0 < 64 }
         ensures gives { Gives self.old clip no.0 result }

@@ -9,8 +9,8 @@ ghost use Rattle.clip_chunks.specs.Rules.{unknown, joined, left, entered};
 
 use share_base::{Octets, ScreenNo, ScreenSet};
 
-/// One clipboard: its owner, the sequence of the latest copy, grab or whole that counted, its bytes where
-/// they are known, and the screens that are still to be sent them.
+/// One clipboard: its owner, the sequence of the latest copy, grab or whole that counted, its bytes
+/// where they are known, and the screens that are still to be sent them.
 #[derive(Debug, Drop)]
 pub(crate) struct Kept {
     owner: ScreenNo,

@@ -1,10 +1,11 @@
-//! Clipboards in parts: cutting one into frames, putting its parts together again, and who owns which
-//! clipboard.
+//! Clipboards in parts: cutting one into frames, putting its parts together again, and who owns
+//! which clipboard.
 //!
-//! It owns what a whole clipboard is among the parts that came (`specs/Wholes.antt`), how one is cut
-//! (`specs/Sending.antt`), the rules of owners, sequences and dirty screens (`specs/Clips.antt`,
-//! `specs/Rules.antt`), and where known bytes come from (`specs/Origins.antt`). It may know messages and
-//! their frames, but neither connections nor what a screen does with a clipboard.
+//! It owns what a whole clipboard is among the parts that came (`specs/Wholes.antt`), how one is
+//! cut (`specs/Sending.antt`), the rules of owners, sequences and dirty screens
+//! (`specs/Clips.antt`, `specs/Rules.antt`), and where known bytes come from
+//! (`specs/Origins.antt`). It may know messages and their frames, but neither connections nor what
+//! a screen does with a clipboard.
 #![tactic(auto)]
 
 mod assembly;

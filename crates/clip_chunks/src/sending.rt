@@ -10,13 +10,13 @@ use share_base::{ClipId, Octets, OutOfMemory};
 /// How many bytes a full chunk has.
 const CHUNK_LEN: usize = 32_768;
 
-/// How many bytes the body of a part has besides the part's own: the code, the clipboard, the sequence,
-/// the mark, and how many bytes follow.
+/// How many bytes the body of a part has besides the part's own: the code, the clipboard, the
+/// sequence, the mark, and how many bytes follow.
 const PART_LEN: u32 = 14;
 
-/// Appends the frames of a clipboard of at most 4,194,304 bytes: a start that says how many bytes there
-/// are, the bytes in chunks of 32,768 of which the last may be shorter, and an end. Their messages hold
-/// one whole, of these bytes. On `OutOfMemory` `out` is unchanged.
+/// Appends the frames of a clipboard of at most 4,194,304 bytes: a start that says how many bytes
+/// there are, the bytes in chunks of 32,768 of which the last may be shorter, and an end. Their
+/// messages hold one whole, of these bytes. On `OutOfMemory` `out` is unchanged.
 #[tactic(auto, using(crate::proofs::OneWhole::holds_one))]
 pub fn frames_of(clip: ClipId, seq: u32, bytes: &[u8], out: &mut Octets) -> Result<(), OutOfMemory>
     requires { length bytes.now ≤ 4194304 }

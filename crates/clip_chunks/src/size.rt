@@ -9,8 +9,8 @@ ghost use Rattle.clip_chunks.specs.Wholes.{size_of};
 /// The greatest number of digits that a size may have.
 const SIZE_DIGITS: usize = 10;
 
-/// Reads a size of 1 to 10 decimal digits, among which leading zeros may stand. `None` if the text is
-/// not that.
+/// Reads a size of 1 to 10 decimal digits, among which leading zeros may stand. `None` if the text
+/// is not that.
 pub(crate) fn size_of(text: &[u8]) -> Option<u64>
     ensures { result ≡ size_of text.now }
 {

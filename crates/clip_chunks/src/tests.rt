@@ -139,8 +139,8 @@ fn each_part_has_its_answer(rt: HostRuntime) -> Result<(), Fail> {
     Ok(())
 }
 
-/// How many bytes, the frame of the start, and the frames of the chunks before their bytes, with how
-/// many bytes each has.
+/// How many bytes, the frame of the start, and the frames of the chunks before their bytes, with
+/// how many bytes each has.
 const CUTS: [(usize, &[u8], &[(&[u8], usize)]); 4] = [
     (0, b"\0\0\0\x0fDCLP\x01\0\0\x01\x02\x01\0\0\0\x010", &[]),
     (
@@ -200,8 +200,8 @@ enum Step<'a> {
     Enters(u16, Option<&'a [u8]>),
 }
 
-/// The calls on one book of at most 10 bytes, for the first clipboard. The primary is 0, the screens 0
-/// to 2 are joined, and the machine's sequence is 2.
+/// The calls on one book of at most 10 bytes, for the first clipboard. The primary is 0, the
+/// screens 0 to 2 are joined, and the machine's sequence is 2.
 const STEPS: [Step; 32] = [
     Step::Enters(1, None),
     Step::Sends(1, 1, b"no", false),

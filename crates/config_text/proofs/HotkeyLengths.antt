@@ -1,5 +1,6 @@
 -- Printed hotkeys are short: so many bytes for each, and so many for each action.
-use Rattle.std.proofs.Common.{◌≡◌, ℕ, ◌+◌, ◌*◌, ◌≤◌, Bool, true, false, List, [], ◌∷◌, ◌++◌, length, map, ap, length-append, arith}
+use Rattle.std.proofs.Common.{◌≡◌, ℕ, ◌+◌, ◌*◌, ◌≤◌, Bool, true, false, List, [], ◌∷◌, ◌++◌, length}
+use Rattle.std.proofs.Common.{map, ap, length-append, arith}
 use Rattle.std.specs.Prelude.{codes}
 use Rattle.std.specs.List.{flat_map, list_all}
 use Rattle.std.proofs.lemmas.Bool.{and_parts}
@@ -33,16 +34,23 @@ screen_short c (action.MouseClick mods b) s = omega arith
 screen_short c (action.MousePress mods b) s = omega arith
 screen_short c (action.MouseRelease mods b) s = omega arith
 
-action_of_short : (c : Configuration) (count : ℕ) (a : Action) → IsSound c → is_action_among count a ≡ true → length (action_of c a) ≤ 275
+action_of_short : (c : Configuration) (count : ℕ) (a : Action) → IsSound c
+    → is_action_among count a ≡ true → length (action_of c a) ≤ 275
 unfolding action_of
-action_of_short c count a s h = action_short a (screen_in c a) (and_parts (is_action a) (action_below count a) h).0 (screen_short c a s)
+action_of_short c count a s h =
+    action_short a (screen_in c a) (and_parts (is_action a) (action_below count a) h).0
+    (screen_short c a s)
 
-further_short : (c : Configuration) (count : ℕ) (a : Action) → IsSound c → is_action_among count a ≡ true → length (further_action c a) ≤ 300
-further_short c count a s h = omega (arith, length-append (codes ", ") (action_of c a), action_of_short c count a s h)
+further_short : (c : Configuration) (count : ℕ) (a : Action) → IsSound c
+    → is_action_among count a ≡ true → length (further_action c a) ≤ 300
+further_short c count a s h =
+    omega (arith, length-append (codes ", ") (action_of c a), action_of_short c count a s h)
 
 -- ---- a list of actions
 
-list_short : (c : Configuration) (count : ℕ) (actions : List Action) → IsSound c → list_all (is_action_among count) actions ≡ true → length (with_commas (map (action_of c) actions)) ≤ 300 * length actions
+list_short : (c : Configuration) (count : ℕ) (actions : List Action) → IsSound c
+    → list_all (is_action_among count) actions ≡ true
+    → length (with_commas (map (action_of c) actions)) ≤ 300 * length actions
 list_short c count [] s h = omega arith
 list_short c count (a ∷ actions) s h =
     let e = and_parts (is_action_among count a) (list_all (is_action_among count) actions) h in
@@ -51,7 +59,8 @@ list_short c count (a ∷ actions) s h =
       length-append (action_of c a) (and_further (map (action_of c) actions)),
       ap (λ (t : List ℕ). length t) (further_texts c actions),
       action_of_short c count a s e.0,
-      all_short (further_action c) 300 (is_action_among count) actions (λ b k. further_short c count b s k) e.1,
+      all_short (further_action c) 300 (is_action_among count) actions
+          (λ b k. further_short c count b s k) e.1,
     )
 
 between_short : (press release : Bool) → length (between press release) ≤ 2
@@ -62,7 +71,9 @@ between_short false false = omega arith
 
 -- ---- a hotkey
 
-hotkey_short : (c : Configuration) (count : ℕ) (rule : Rule) → IsSound c → is_trigger rule.trigger ≡ true → list_all (is_action_among count) (rule.press ++ rule.release) ≡ true
+hotkey_short : (c : Configuration) (count : ℕ) (rule : Rule) → IsSound c
+    → is_trigger rule.trigger ≡ true
+    → list_all (is_action_among count) (rule.press ++ rule.release) ≡ true
     → length (hotkey_of c rule) ≤ 100 + 300 * length (rule.press ++ rule.release)
 unfolding hotkey_of hotkey_text
 hotkey_short c count rule s t h =
@@ -73,8 +84,12 @@ hotkey_short c count rule s t h =
     let sign = between (has_some press) (has_some release) in
     omega (
       arith,
-      length-append (one_tab ++ ((((trigger ++ codes " = ") ++ with_commas press) ++ sign) ++ with_commas release)) (10 ∷ []),
-      length-append one_tab ((((trigger ++ codes " = ") ++ with_commas press) ++ sign) ++ with_commas release),
+      length-append
+          (one_tab
+          ++ ((((trigger ++ codes " = ") ++ with_commas press) ++ sign) ++ with_commas release))
+          (10 ∷ []),
+      length-append one_tab
+          ((((trigger ++ codes " = ") ++ with_commas press) ++ sign) ++ with_commas release),
       length-append (((trigger ++ codes " = ") ++ with_commas press) ++ sign) (with_commas release),
       length-append ((trigger ++ codes " = ") ++ with_commas press) sign,
       length-append (trigger ++ codes " = ") (with_commas press),
@@ -86,12 +101,18 @@ hotkey_short c count rule s t h =
       list_short c count rule.release s parts.1,
     )
 
-pub hotkeys_short : (c : Configuration) (count : ℕ) (rules : List Rule) → IsSound c → list_all (λ rule. is_trigger rule.trigger) rules ≡ true
-    → list_all (is_action_among count) (actions_in rules) ≡ true → length (flat_map (hotkey_of c) rules) ≤ 100 * length rules + 300 * length (actions_in rules)
+pub hotkeys_short : (c : Configuration) (count : ℕ) (rules : List Rule) → IsSound c
+    → list_all (λ rule. is_trigger rule.trigger) rules ≡ true
+    → list_all (is_action_among count) (actions_in rules) ≡ true
+    → length (flat_map (hotkey_of c) rules)
+    ≤ 100 * length rules + 300 * length (actions_in rules)
 hotkeys_short c count [] s t h = omega arith
 hotkeys_short c count (rule ∷ rules) s t h =
-    let parts = all_parts (is_action_among count) (rule.press ++ rule.release) (actions_in rules) h in
-    let triggers = and_parts (is_trigger rule.trigger) (list_all (λ (r : Rule). is_trigger r.trigger) rules) t in
+    let parts =
+    all_parts (is_action_among count) (rule.press ++ rule.release) (actions_in rules) h in
+    let triggers =
+    and_parts (is_trigger rule.trigger) (list_all (λ (r : Rule). is_trigger r.trigger) rules) t
+    in
     omega (
       arith,
       length-append (hotkey_of c rule) (flat_map (hotkey_of c) rules),

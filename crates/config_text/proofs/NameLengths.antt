@@ -1,5 +1,6 @@
 -- Names of screens are short.
-use Rattle.std.proofs.Common.{◌≡◌, ℕ, ◌≤◌, true, ◌==◌, List, length, Option, nat_le, ap, inl, inr, arith}
+use Rattle.std.proofs.Common.{◌≡◌, ℕ, ◌≤◌, true, ◌==◌, List, length, Option, nat_le, ap, inl, inr}
+use Rattle.std.proofs.Common.{arith}
 use Rattle.std.proofs.lemmas.Bool.{cases_lt}
 use Rattle.std.proofs.lemmas.Option.{slice_get_past}
 use Rattle.share_base.proofs.NameBytes.{is_name_short}
@@ -12,5 +13,6 @@ use Rattle.config_text.proofs.KnownAgain.{sound_names, is_name_again}
 pub name_short : (c : Configuration) (n : ℕ) → IsSound c → length (name_of c n) ≤ 255
 name_short c n s = elim (cases_lt n (length c.screens)) [
   | inl h ↦ is_name_short (name_of c n) (is_name_again c n (sound_names c s) h)
-  | inr h ↦ omega (arith, ap (λ (o : Option Screen). length (name_in o)) (slice_get_past c.screens n h))
+  | inr h ↦
+      omega (arith, ap (λ (o : Option Screen). length (name_in o)) (slice_get_past c.screens n h))
 ]

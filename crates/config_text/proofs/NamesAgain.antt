@@ -1,5 +1,6 @@
 -- Names that are printed are read again.
-use Rattle.std.proofs.Common.{◌≡◌, ℕ, ◌<◌, Bool, ◌||◌, true, not, ◌==◌, List, [], ◌∷◌, ◌++◌, length, Ok, refl, arith}
+use Rattle.std.proofs.Common.{◌≡◌, ℕ, ◌<◌, Bool, ◌||◌, true, not, ◌==◌, List, [], ◌∷◌, ◌++◌, length}
+use Rattle.std.proofs.Common.{Ok, refl, arith}
 use Rattle.std.specs.List.{list_all}
 use Rattle.std.proofs.lemmas.Bool.{agree_below}
 use Rattle.std.proofs.lemmas.Bool.Decides.{nat_tests}
@@ -22,20 +23,37 @@ name_below : (b : ℕ) → is_name_byte b ≡ true → b < 127
 name_below b h = grind (arith, nat_tests)
 
 -- what each of them passes
-pub name_passes : (q : ℕ → Bool) → agree_below (λ b. not (is_name_byte b) || q b) (λ b. true) 127 ≡ true → (name : List ℕ) → is_name name ≡ true → list_all q name ≡ true
-name_passes q table name h = all_weaker is_name_byte q (each_byte is_name_byte q name_below table) name (name_bytes name h)
+pub name_passes : (q : ℕ → Bool)
+    → agree_below (λ b. not (is_name_byte b) || q b) (λ b. true) 127 ≡ true → (name : List ℕ)
+    → is_name name ≡ true → list_all q name ≡ true
+name_passes q table name h =
+    all_weaker is_name_byte q (each_byte is_name_byte q name_below table) name (name_bytes name h)
 
 pub name_takes : (name : List ℕ) → is_name name ≡ true → list_all (takes kind.Name) name ≡ true
 name_takes = name_passes (takes kind.Name) refl
 
 -- ---- a header
 
-pub header_again : (name : List ℕ) → is_name name ≡ true → header_at (name ++ 58 ∷ []) ≡ Ok (text_of name (length (name ++ 58 ∷ [])))
+pub header_again : (name : List ℕ) → is_name name ≡ true
+    → header_at (name ++ 58 ∷ []) ≡ Ok (text_of name (length (name ++ 58 ∷ [])))
 header_again name h =
-    spelled_again (name ++ 58 ∷ []) (text_of name (length (name ++ 58 ∷ []))) (record { behind_name = []; behind_sign = []; text = refl; run = name_takes name h; gaps = (refl, refl); place = refl })
+    spelled_again (name ++ 58 ∷ []) (text_of name (length (name ++ 58 ∷ [])))
+    (record {
+      behind_name = [];
+      behind_sign = [];
+      text = refl;
+      run = name_takes name h;
+      gaps = (refl, refl);
+      place = refl;
+    })
 
 pub is_header_again : (name : List ℕ) → is_name name ≡ true → is_header (name ++ 58 ∷ []) ≡ true
 unfolding is_header
 is_header_again name h =
     let none = name_passes (λ b. not (b == 61)) refl name h in
-    rw (last_is name 58, list_any-append (λ b. b == 61) name (58 ∷ []), any_none (λ b. b == 61) name none) refl
+    rw (
+      last_is name 58,
+      list_any-append (λ b. b == 61) name (58 ∷ []),
+      any_none (λ b. b == 61) name none,
+    )
+    refl

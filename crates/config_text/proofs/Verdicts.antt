@@ -10,7 +10,8 @@ abbrev verdict_of : Result Configuration ConfigRefusal → Verdict
 verdict_of (Ok config) = Accepted config
 verdict_of (Err refusal) = Refused refusal
 
-has_by : (text : List ℕ) (r : Result Configuration ConfigRefusal) → reading text ≡ r → HasVerdict text (verdict_of r)
+has_by : (text : List ℕ) (r : Result Configuration ConfigRefusal) → reading text ≡ r
+    → HasVerdict text (verdict_of r)
 has_by text (Ok config) e = accepts text config e
 has_by text (Err refusal) e = refuses text refusal e
 

@@ -20,7 +20,8 @@ abbrev pub Fails : {Y : Type 0} → ConfigFault → Result Y ConfigRefusal → T
 Fails (fault.Refused r) read = read ≡ Err r
 Fails fault.OutOfMemory read = Unit {0}
 
-abbrev pub Answers : {X Y : Type 0} → (X → Y) → Result X ConfigFault → Result Y ConfigRefusal → Type 0
+abbrev pub Answers : {X Y : Type 0} → (X → Y) → Result X ConfigFault → Result Y ConfigRefusal
+    → Type 0
 Answers view (Ok x) read = read ≡ Ok (view x)
 Answers view (Err e) read = Fails e read
 
@@ -28,7 +29,8 @@ Answers view (Err e) read = Fails e read
 abbrev pub PlacedAs : {X : Type 0} → ℕ → ℕ → Result X LineFault → Result X ConfigFault → Type 0
 PlacedAs line end (Ok x) answer = answer ≡ Ok x
 PlacedAs line end (Err line_fault.OutOfMemory) answer = answer ≡ Err fault.OutOfMemory
-PlacedAs line end (Err (line_fault.Refused f)) answer = answer ≡ Err (fault.Refused (refused line (end - f.left + 1) f.kind))
+PlacedAs line end (Err (line_fault.Refused f)) answer =
+    answer ≡ Err (fault.Refused (refused line (end - f.left + 1) f.kind))
 
 abbrev pub RefusesBy : List ℕ → ConfigFault → Type 0
 RefusesBy text (fault.Refused r) = Refuses text r

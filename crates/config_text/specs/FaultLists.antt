@@ -1,5 +1,7 @@
 -- All faults of a line's words: by class, and within a class from the left.
-use Rattle.std.specs.Prelude.{◌≡◌, ℕ, ◌<◌, ◌≤◌, Bool, true, false, not, ◌&&◌, nat_lt, nat_le, List, [], ◌∷◌, ◌++◌, length, Result, Ok, Err, Option, Some, None, is_some, is_none, ◌⊎◌}
+use Rattle.std.specs.Prelude.{◌≡◌, ℕ, ◌<◌, ◌≤◌, Bool, true, false, not, ◌&&◌, nat_lt, nat_le, List}
+use Rattle.std.specs.Prelude.{[], ◌∷◌, ◌++◌, length, Result, Ok, Err, Option, Some, None, is_some}
+use Rattle.std.specs.Prelude.{is_none, ◌⊎◌}
 use Rattle.std.specs.List.{list_any}
 use Rattle.share_base.specs.declared.shape.Side.{Side}
 use Rattle.share_base.specs.Names.{is_name}
@@ -14,7 +16,8 @@ use Rattle.config_text.specs.declared.faults.ConfigKind.TheVariants as kind
 use Rattle.config_text.specs.declared.faults.Fault.{Fault}
 use Rattle.screen_config.specs.Configurations.{Configuration, screen_of}
 use Rattle.config_text.specs.Shapes.{RangeText, LinkText, SettingText}
-use Rattle.config_text.specs.Judging.{fault_at, range_of, link_of, overlaps}
+use Rattle.screen_links.specs.Adding.{link_of}
+use Rattle.config_text.specs.Judging.{fault_at, range_of, screen_no, overlaps}
 use Rattle.share_base.specs.declared.screen_set.TheConstants.{MOST_SCREENS}
 use Rattle.screen_config.specs.declared.config.TheConstants.{MOST_ALIASES}
 
@@ -27,7 +30,8 @@ bad_name name = fault_unless (is_name name.text) kind.BadName name.left
 
 -- of a screen that the line speaks of
 unfoldable pub known_faults : Configuration → Text → List Fault
-known_faults c name = bad_name name ++ fault_unless (is_some (screen_of c name.text)) kind.UnknownScreen name.left
+known_faults c name =
+    bad_name name ++ fault_unless (is_some (screen_of c name.text)) kind.UnknownScreen name.left
 
 unfoldable pub screen_faults : ℕ → Configuration → Text → List Fault
 screen_faults whole c name =
@@ -51,7 +55,8 @@ range_faults (Some r) = fault_unless (nat_lt r.a r.b && nat_le r.b 100) kind.Bad
 
 -- a link there, wherever it leads, has a hundredth in common with one that is there already
 abbrev pub is_taken : Configuration → ℕ → Side → Range → Bool
-is_taken c from side range = list_any (overlaps (link_of from side range from range)) c.links
+is_taken c from side range =
+    list_any (overlaps (link_of (screen_no from) side range (screen_no from) range)) c.links
 
 unfoldable pub link_faults : ℕ → Configuration → ℕ → LinkText → List Fault
 link_faults whole c from l =
@@ -94,7 +99,8 @@ class_of _ = 2
 
 -- of a class before the other's, or of the same and no further to the right
 abbrev pub ComesBefore : Fault → Fault → Type 0
-ComesBefore a b = (class_of a.kind < class_of b.kind) ⊎ ((class_of a.kind ≡ class_of b.kind) × (b.left ≤ a.left))
+ComesBefore a b =
+    (class_of a.kind < class_of b.kind) ⊎ ((class_of a.kind ≡ class_of b.kind) × (b.left ≤ a.left))
 
 abbrev pub ComesBeforeAll : Fault → List Fault → Type 0
 ComesBeforeAll f [] = Unit {0}

@@ -16,8 +16,10 @@ abbrev pub line_fault : HotkeyFault → Fault
 line_fault f = fault_at (kind_of f.kind) f.left
 
 -- actions of which one has no meaning are counted for no limit
-abbrev pub limit_faults : ℕ → Configuration → Result (List Action) Fault → Result (List Action) Fault → List Fault
-limit_faults whole c (Ok press) (Ok release) = fault_unless (has_room c.hotkeys (press ++ release)) kind.TooMany whole
+abbrev pub limit_faults : ℕ → Configuration → Result (List Action) Fault
+    → Result (List Action) Fault → List Fault
+limit_faults whole c (Ok press) (Ok release) =
+    fault_unless (has_room c.hotkeys (press ++ release)) kind.TooMany whole
 limit_faults whole c press release = []
 
 unfoldable pub hotkey_faults : ℕ → Configuration → HotkeyForm → List Fault

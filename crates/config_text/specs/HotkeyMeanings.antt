@@ -17,7 +17,9 @@ abbrev pub MeansWords : Configuration → ActionText → Action → Type 0
 MeansWords c (Key deed id mods) a = a ≡ key_action deed id mods no_button
 MeansWords c (Mouse deed b mods) a = a ≡ mouse_action deed mods b
 MeansWords c (Lock mode) a = a ≡ action.Lock mode
-MeansWords c (SwitchTo s) a = (screen : ℕ) × (screen_of c s.word.text ≡ Some screen) × (s.further ≡ None) × (a ≡ action.SwitchTo (record { 0 = screen }))
+MeansWords c (SwitchTo s) a =
+    (screen : ℕ) × (screen_of c s.word.text ≡ Some screen) × (s.further ≡ None)
+    × (a ≡ action.SwitchTo (record { 0 = screen }))
 MeansWords c (SwitchToward side) a = a ≡ action.SwitchToward side
 
 abbrev pub MeansAction : Configuration → ActionForm → Action → Type 0

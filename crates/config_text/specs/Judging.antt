@@ -1,11 +1,15 @@
--- The faults of a line's words, in the order in which they are looked for: a name that is none, then the rest, then
--- ranges, then an overlap, then a limit. Of two of one class the one further to the left comes first.
-use Rattle.std.specs.Prelude.{ℕ, Bool, true, false, not, ◌==◌, ◌&&◌, nat_lt, nat_le, min, max, length, Result, Ok, Err, Option, Some, None, is_none}
+-- The faults of a line's words, in the order in which they are looked for: a name that is none,
+-- then the rest, then ranges, then an overlap, then a limit. Of two of one class the one further to
+-- the left comes first.
+use Rattle.std.specs.Prelude.{ℕ, Bool, true, false, not, ◌==◌, ◌&&◌, nat_lt, nat_le, min, max}
+use Rattle.std.specs.Prelude.{length, Result, Ok, Err, Option, Some, None, is_none}
 use Rattle.std.specs.List.{list_any}
+use Rattle.share_base.specs.declared.numbers.ScreenNo.{ScreenNo}
 use Rattle.share_base.specs.declared.shape.Side.{Side}
 use Rattle.share_base.specs.Shapes.{same_side}
 use Rattle.share_base.specs.Names.{is_name}
 use Rattle.text_lines.specs.Reading.{◌>>=◌, Text}
+use Rattle.screen_links.specs.Adding.{link_of}
 use Rattle.screen_links.specs.declared.link.Link.{Link}
 use Rattle.screen_links.specs.declared.range.Range.{Range}
 use Rattle.option_table.specs.declared.rows.Scope.{Scope}
@@ -15,7 +19,8 @@ use Rattle.config_text.specs.declared.faults.ConfigKind.{ConfigKind}
 use Rattle.config_text.specs.declared.faults.ConfigKind.TheVariants as kind
 use Rattle.config_text.specs.declared.faults.Fault.{Fault}
 use Rattle.config_text.specs.declared.words.Setting.{Setting}
-use Rattle.screen_config.specs.Configurations.{Configuration, screen_of, with_screen, with_alias, with_link}
+use Rattle.screen_config.specs.Configurations.{Configuration, screen_of, with_screen, with_alias}
+use Rattle.screen_config.specs.Configurations.{with_link}
 use Rattle.config_text.specs.Shapes.{RangeText, LinkText, SettingText}
 use Rattle.share_base.specs.declared.screen_set.TheConstants.{MOST_SCREENS}
 use Rattle.screen_config.specs.declared.config.TheConstants.{MOST_ALIASES}
@@ -59,6 +64,9 @@ new_alias whole c screen name = do
 
 -- ---- links
 
+abbrev pub screen_no : ℕ → ScreenNo
+screen_no n = record { 0 = n }
+
 abbrev pub range_of : ℕ → ℕ → Range
 range_of a b = record { a = a; b = b }
 
@@ -70,10 +78,9 @@ good_range (Some r) = do
 
 -- they stand on one side of one screen, and share a hundredth of it
 unfoldable pub overlaps : Link → Link → Bool
-overlaps l k = (l.from.0 == k.from.0) && same_side l.side k.side && nat_lt (max l.range.a k.range.a) (min l.range.b k.range.b)
-
-abbrev pub link_of : ℕ → Side → Range → ℕ → Range → Link
-link_of from s range to onto = record { from = record { 0 = from }; side = s; range = range; to = record { 0 = to }; onto = onto }
+overlaps l k =
+    (l.from.0 == k.from.0) && same_side l.side k.side
+    && nat_lt (max l.range.a k.range.a) (min l.range.b k.range.b)
 
 -- the link, whose side stands there, overlaps none of its side, and there is room for it
 unfoldable pub one_link_more : ℕ → Configuration → ℕ → Link → Result Configuration Fault
@@ -87,7 +94,7 @@ new_link whole c from l = do
   to ← known_screen c l.name
   range ← good_range l.source
   onto ← good_range l.target
-  one_link_more whole c l.left (link_of from l.side range to onto)
+  one_link_more whole c l.left (link_of (screen_no from) l.side range (screen_no to) onto)
 
 -- ---- options
 

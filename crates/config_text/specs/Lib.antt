@@ -10,10 +10,10 @@ pub mod Kinds
 pub mod Lines
 pub mod LinkTables
 pub mod Normal
-pub mod PrintedAgain
+pub mod RoundTrip
 pub mod Sections
-pub mod Seen
 pub mod Shapes
 pub mod Spelling
 pub mod SpellingLinks
 pub mod Verdicts
+pub mod Views

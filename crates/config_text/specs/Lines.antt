@@ -1,7 +1,8 @@
 -- One line judged in what the lines above it gave, and all of them.
-use Rattle.std.specs.Prelude.{ℕ, ◌+◌, ◌-◌, List, [], ◌∷◌, length, Result, Ok, Err, Option, Some, None}
+use Rattle.std.specs.Prelude.{ℕ, ◌+◌, ◌-◌, List, length, Result, Ok, Err, Option, Some, None}
 use Rattle.std.specs.Str.Lines.{lines}
 use Rattle.text_lines.specs.Lines.{LineText, Empty, Forbidden, Words, line_text}
+use Rattle.text_lines.specs.LineByLine.{all_lines}
 use Rattle.text_lines.specs.Reading.{◌>>=◌}
 use Rattle.config_text.specs.declared.faults.ConfigKind.{ConfigKind}
 use Rattle.config_text.specs.declared.faults.ConfigKind.TheVariants as kind
@@ -23,15 +24,11 @@ placed line end (Err f) = Err (refused line (end - f.left + 1) f.kind)
 abbrev pub judged_as : LineText → ℕ → Draft → Result Draft ConfigRefusal
 judged_as Empty line d = Ok d
 judged_as (Forbidden place) line d = Err (refused line (place + 1) kind.BadLine)
-judged_as (Words words end) line d = placed line end (words_in line (end - length words + 1) d words)
+judged_as (Words words end) line d =
+    placed line end (words_in line (end - length words + 1) d words)
 
 unfoldable pub judged : ℕ → Draft → List ℕ → Result Draft ConfigRefusal
 judged line d raw = judged_as (line_text raw) line d
-
--- the lines, in order, until one offends
-unfoldable pub read_lines : ℕ → Draft → List (List ℕ) → Result Draft ConfigRefusal
-read_lines line d [] = Ok d
-read_lines line d (l ∷ ls) = judged line d l >>= λ e. read_lines (line + 1) e ls
 
 abbrev pub start : Draft
 start = record { opened = None; header = None; config = nothing }
@@ -41,4 +38,4 @@ closed None c = Ok c
 closed (Some o) c = Err (refused o.line o.column kind.UnclosedSection)
 
 unfoldable pub reading : List ℕ → Result Configuration ConfigRefusal
-reading text = read_lines 1 start (lines text) >>= λ d. closed d.opened d.config
+reading text = all_lines judged 1 start (lines text) >>= λ d. closed d.opened d.config

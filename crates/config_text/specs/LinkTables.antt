@@ -20,7 +20,8 @@ cell_of n s a = (n * 4 + side_index s) * 100 + a
 -- each cell of so many screens has the first of the links that begins there
 abbrev pub IsTableOf : List Link → ℕ → List (Option Link) → Type 0
 IsTableOf links count cells =
-    (n : ℕ) (s : Side) (a : ℕ) → n < count → a < 100 → slice_index_or cells (cell_of n s a) None ≡ find (begins_at n s a) links
+    (n : ℕ) (s : Side) (a : ℕ) → n < count → a < 100
+    → slice_index_or cells (cell_of n s a) None ≡ find (begins_at n s a) links
 
 -- the table of a configuration
 pub record IsTableFor (c : Configuration) (cells : List (Option Link)) : Type 0 where

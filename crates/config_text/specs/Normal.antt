@@ -1,6 +1,8 @@
--- The normal form: each section once, screens and aliases in the order of the text, links by side and then by where
--- they begin, options in the order of their table, hotkeys in the order of the text.
-use Rattle.std.specs.Prelude.{ℕ, ◌==◌, ◌&&◌, if◌then◌else◌, List, [], ◌∷◌, ◌++◌, map, Option, Some, None, codes}
+-- The normal form: each section once, screens and aliases in the order of the text, links by side
+-- and then by where they begin, options in the order of their table, hotkeys in the order of the
+-- text.
+use Rattle.std.specs.Prelude.{ℕ, ◌==◌, ◌&&◌, if◌then◌else◌, List, [], ◌∷◌, ◌++◌, map, Option, Some}
+use Rattle.std.specs.Prelude.{None, codes}
 use Rattle.std.specs.List.{flat_map}
 use Rattle.std.specs.Fmt.{decimal}
 use Rattle.share_base.specs.declared.shape.Side.{Side}
@@ -16,7 +18,8 @@ use Rattle.screen_config.specs.declared.screens.Screen.{Screen}
 use Rattle.screen_config.specs.declared.screens.Alias.{Alias}
 use Rattle.screen_config.specs.Configurations.{Configuration}
 use Rattle.share_base.specs.Sides.{side_text, sides as all_sides}
-use Rattle.screen_config.specs.Values.{names_screen, numbers_of, name_of, hundredths, link_beginning}
+use Rattle.screen_config.specs.Values.{names_screen, numbers_of, name_of, hundredths}
+use Rattle.screen_config.specs.Values.{link_beginning}
 
 abbrev pub one_tab : List ℕ
 one_tab = 9 ∷ []
@@ -33,7 +36,8 @@ block_text name below = if is_empty below then [] else header_text name ++ below
 
 -- section: NAME, its lines, end
 unfoldable pub section_of : List ℕ → List ℕ → List ℕ
-section_of name below = ((codes "section: " ++ name) ++ 10 ∷ []) ++ (below ++ (codes "end" ++ 10 ∷ []))
+section_of name below =
+    ((codes "section: " ++ name) ++ 10 ∷ []) ++ (below ++ (codes "end" ++ 10 ∷ []))
 
 -- ---- screens
 
@@ -59,11 +63,14 @@ aliases_text c = flat_map (aliases_of c) (numbers_of c)
 -- (a,b), where it isn't (0,100)
 unfoldable pub range_text : Range → List ℕ
 range_text r =
-    if (r.a == 0) && (r.b == 100) then [] else (((codes "(" ++ decimal r.a) ++ codes ",") ++ decimal r.b) ++ codes ")"
+    if (r.a == 0) && (r.b == 100) then []
+    else (((codes "(" ++ decimal r.a) ++ codes ",") ++ decimal r.b) ++ codes ")"
 
 unfoldable pub link_text : Configuration → Link → List ℕ
 link_text c l =
-    (((((two_tabs ++ side_text l.side) ++ range_text l.range) ++ codes " = ") ++ name_of c l.to.0) ++ range_text l.onto) ++ 10 ∷ []
+    (((((two_tabs ++ side_text l.side) ++ range_text l.range) ++ codes " = ") ++ name_of c l.to.0)
+    ++ range_text l.onto)
+    ++ 10 ∷ []
 
 abbrev pub maybe_link : Configuration → Option Link → List ℕ
 maybe_link c None = []
@@ -105,7 +112,10 @@ further_action c a = codes ", " ++ action_of c a
 
 unfoldable pub hotkey_of : Configuration → Rule → List ℕ
 hotkey_of c rule =
-    (one_tab ++ hotkey_text (trigger_text rule.trigger) (map (action_of c) rule.press) (map (action_of c) rule.release)) ++ 10 ∷ []
+    (one_tab
+    ++ hotkey_text (trigger_text rule.trigger) (map (action_of c) rule.press)
+    (map (action_of c) rule.release))
+    ++ 10 ∷ []
 
 abbrev pub hotkeys_text : Configuration → List ℕ
 hotkeys_text c = flat_map (hotkey_of c) c.hotkeys
@@ -117,5 +127,6 @@ options_text c = option_lines one_tab c.settings ++ hotkeys_text c
 
 unfoldable pub normal : Configuration → List ℕ
 normal c =
-    ((section_of (codes "screens") (screens_text c) ++ section_of (codes "aliases") (aliases_text c))
+    ((section_of (codes "screens") (screens_text c)
+    ++ section_of (codes "aliases") (aliases_text c))
     ++ section_of (codes "links") (links_text c)) ++ section_of (codes "options") (options_text c)

@@ -1,9 +1,10 @@
 -- The words of a line, by the section in which it stands.
-use Rattle.std.specs.Prelude.{ℕ, ◌-◌, Bool, not, ◌==◌, ◌&&◌, if◌then◌else◌, List, [], ◌∷◌, length, Result, Ok, Err, Option, Some, None, codes, slice_index}
+use Rattle.std.specs.Prelude.{ℕ, ◌-◌, Bool, not, ◌==◌, ◌&&◌, if◌then◌else◌, List, [], ◌∷◌, length}
+use Rattle.std.specs.Prelude.{Result, Ok, Err, Option, Some, None, codes, slice_index}
 use Rattle.std.specs.List.{list_any, find}
 use Rattle.std.specs.Str.{bytes_eq}
 use Rattle.text_lines.specs.Reading.{◌>>=◌}
-use Rattle.option_table.specs.Standing.{stands_below_screen, stands_for_all}
+use Rattle.option_table.specs.Scopes.{stands_below_screen, stands_for_all}
 use Rattle.config_text.specs.declared.faults.ConfigKind.TheVariants as kind
 use Rattle.config_text.specs.declared.faults.Fault.{Fault}
 use Rattle.config_text.specs.declared.sections.Section.{Section}
@@ -15,7 +16,8 @@ use Rattle.screen_config.specs.Configurations.{Configuration, with_global, with_
 use Rattle.config_text.specs.Hotkeys.{new_hotkey}
 use Rattle.config_text.specs.Shapes.{section_at, header_at, alias_at, link_at, setting_at}
 use Rattle.screen_config.specs.Sound.{is_end}
-use Rattle.config_text.specs.Judging.{fault_at, or_fault, formed, known_screen, new_screen, new_alias, new_link, new_setting}
+use Rattle.config_text.specs.Judging.{fault_at, or_fault, formed, known_screen, new_screen}
+use Rattle.config_text.specs.Judging.{new_alias, new_link, new_setting}
 
 abbrev pub section_text : Section → List ℕ
 section_text section.Screens = codes "screens"
@@ -105,12 +107,14 @@ unfoldable pub in_section : Section → Draft → List ℕ → Result Draft Faul
 in_section section.Screens d xs = if is_header xs then screen_header d xs else screen_line d xs
 in_section section.Aliases d xs = if is_header xs then known_header d xs else alias_line d xs
 in_section section.Links d xs = if is_header xs then known_header d xs else link_line d xs
-in_section section.Options d xs = if is_header xs then Err (fault_at kind.BadLine (length xs)) else option_line d xs
+in_section section.Options d xs =
+    if is_header xs then Err (fault_at kind.BadLine (length xs)) else option_line d xs
 
 -- inside a section `end` alone closes it
 abbrev pub inside : Option Opened → ℕ → ℕ → Draft → List ℕ → Result Draft Fault
 inside None line column d xs = outside line column d xs
-inside (Some o) line column d xs = if is_end xs then Ok (record d { opened = None; header = None }) else in_section o.section d xs
+inside (Some o) line column d xs =
+    if is_end xs then Ok (record d { opened = None; header = None }) else in_section o.section d xs
 
 -- the words of a line, which are not empty
 unfoldable pub words_in : ℕ → ℕ → Draft → List ℕ → Result Draft Fault

@@ -1,10 +1,11 @@
--- The forms of lines: which words and signs stand in them, in order. A form that can't go on says how many bytes were
--- left there.
+-- The forms of lines: which words and signs stand in them, in order. A form that can't go on says
+-- how many bytes were left there.
 use Rattle.std.specs.Prelude.{ℕ, if◌then◌else◌, List, length, Result, Ok, Option, Some, None, codes}
 use Rattle.share_base.specs.declared.shape.Side.{Side}
 use Rattle.text_lines.specs.declared.bytes.WordKind.TheVariants as kind
 use Rattle.text_lines.specs.Bytes.{takes, unblanked}
-use Rattle.text_lines.specs.Reading.{Read, ◌>>=◌, Text, run_at, word_at, sign_at, literal_at, end_at, begins, or_left, number_at}
+use Rattle.text_lines.specs.Reading.{Read, ◌>>=◌, Text, run_at, word_at, sign_at, literal_at}
+use Rattle.text_lines.specs.Reading.{end_at, begins, or_left, number_at}
 use Rattle.share_base.specs.Sides.{side_named}
 
 -- section: NAME
@@ -47,7 +48,8 @@ range_at xs = do
 
 -- a range where a bracket opens, else none
 unfoldable pub maybe_range_at : List ℕ → Read (Option RangeText)
-maybe_range_at xs = if begins 40 xs then (range_at xs >>= λ r. Ok (Some r.0, r.1)) else Ok (None, xs)
+maybe_range_at xs =
+    if begins 40 xs then (range_at xs >>= λ r. Ok (Some r.0, r.1)) else Ok (None, xs)
 
 pub record LinkText : Type 0 where
   pub side : Side

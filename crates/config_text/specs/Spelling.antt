@@ -1,4 +1,5 @@
--- Lines in their own words: which texts are lines of a form, with gaps as one likes behind its words and signs.
+-- Lines in their own words: which texts are lines of a form, with gaps as one likes behind its
+-- words and signs.
 use Rattle.std.specs.Prelude.{◌≡◌, ℕ, true, List, ◌∷◌, ◌++◌, length, codes}
 use Rattle.text_lines.specs.declared.bytes.WordKind.TheVariants as kind
 use Rattle.text_lines.specs.Bytes.{takes, is_tight}
@@ -11,7 +12,8 @@ pub record SpellsSection (xs : List ℕ) (name : Text) : Type 0 where
   pub behind_section : List ℕ
   pub behind_sign : List ℕ
   pub behind_name : List ℕ
-  pub text : xs ≡ codes "section" ++ (behind_section ++ 58 ∷ (behind_sign ++ (name.text ++ behind_name)))
+  pub text : xs
+      ≡ codes "section" ++ (behind_section ++ 58 ∷ (behind_sign ++ (name.text ++ behind_name)))
   pub word : IsWord (takes kind.Solid) name.text
   pub gaps : IsGap behind_section × IsGap behind_sign × IsGap behind_name
   pub place : name.left ≡ length (name.text ++ behind_name)

@@ -16,7 +16,12 @@ pub record SpellsRange (xs : List ℕ) (r : RangeText) : Type 0 where
   pub behind_first : List ℕ
   pub behind_comma : List ℕ
   pub behind_second : List ℕ
-  pub text : xs ≡ 40 ∷ (behind_open ++ (first ++ (behind_first ++ 44 ∷ (behind_comma ++ (second ++ (behind_second ++ 41 ∷ []))))))
+  pub text : xs
+      ≡ 40
+      ∷ (behind_open
+      ++ (first
+      ++ (behind_first
+      ++ 44 ∷ (behind_comma ++ (second ++ (behind_second ++ 41 ∷ []))))))
   pub numbers : SpellsNumber first r.a × SpellsNumber second r.b
   pub gaps : IsGap behind_open × IsGap behind_first × IsGap behind_comma × IsGap behind_second
 
@@ -43,8 +48,10 @@ pub record SpellsLink (xs : List ℕ) (l : LinkText) : Type 0 where
   pub behind_range : List ℕ
   pub behind_sign : List ℕ
   pub ends : List ℕ
-  pub text : xs ≡ side_text l.side ++ (behind_side ++ (range ++ (behind_range ++ 61 ∷ (behind_sign ++ ends))))
-  pub source : SpellsMaybe range l.source (length (range ++ (behind_range ++ 61 ∷ (behind_sign ++ ends))))
+  pub text : xs
+      ≡ side_text l.side ++ (behind_side ++ (range ++ (behind_range ++ 61 ∷ (behind_sign ++ ends))))
+  pub source : SpellsMaybe range l.source
+      (length (range ++ (behind_range ++ 61 ∷ (behind_sign ++ ends))))
   pub target : SpellsTarget ends l.name l.target
   pub gaps : IsGap behind_side × IsGap behind_range × IsGap behind_sign
   pub place : l.left ≡ length xs

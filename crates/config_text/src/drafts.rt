@@ -37,7 +37,8 @@ impl Model for Draft {
 }
 
 fn bad_from_its_begin(bytes: &[u8]) -> LineFault
-    ensures { result ≡ LineFault.Refused (record { kind = ConfigKind.BadLine; left = length bytes.now }) }
+    ensures { result
+        ≡ LineFault.Refused (record { kind = ConfigKind.BadLine; left = length bytes.now }) }
 {
     LineFault::Refused(Fault {
         kind: ConfigKind::BadLine,
@@ -192,7 +193,7 @@ impl Draft {
         self.header = None;
     }
 
-    /// The words of a line, of which there is one at least. No blank stands behind the last.
+    /// The words of a line, of which there is one at least. No blank stands after the last.
     #[tactic(auto, unfolding(crate::specs::Sections::words_in))]
     pub(crate) fn words(&mut self, bytes: &[u8], line: u32, column: u32) -> Result<(), LineFault>
         requires { trimmed bytes.now ≡ bytes.now }

@@ -6,9 +6,9 @@ ghost use Rattle.config_text.specs.Kinds.{kind_text};
 use share_base::OutOfMemory;
 use thiserror::Error;
 
-/// What is wrong with a line. On one line the kinds are looked for in this order: `BadLine`, `BadName`,
-/// the others, `BadRange`, `Overlap`, `TooMany`; of two in one of these classes the one further to the
-/// left comes.
+/// What is wrong with a line. On one line the kinds are looked for in this order: `BadLine`,
+/// `BadName`, the others, `BadRange`, `Overlap`, `TooMany`; of two in one of these classes the one
+/// further to the left comes.
 #[derive(Clone, Copy, Debug, PartialEq, Eq)]
 pub enum ConfigKind {
     /// The line's form can't go on there.
@@ -31,15 +31,15 @@ pub enum ConfigKind {
     Overlap,
     /// No option has that key, or it doesn't belong into the section.
     UnknownOption,
-    /// The value isn't one of the option's form, or a word of a hotkey isn't one that stands there; or a
-    /// hotkey has no action and no `;`.
+    /// The value isn't one of the option's form, or a word of a hotkey isn't one that stands there;
+    /// or a hotkey has no action and no `;`.
     BadValue,
     /// No key has that name; or the key of a hotkey is a modifier.
     UnknownKey,
     /// No action has that name.
     UnknownAction,
-    /// The line passes a limit: 64 screens, 256 aliases, 1,024 links, 256 hotkeys, 256 keys of actions,
-    /// 4,096 actions.
+    /// The line passes a limit: 64 screens, 256 aliases, 1,024 links, 256 hotkeys, 256 keys of
+    /// actions, 4,096 actions.
     TooMany,
 }
 
@@ -105,9 +105,9 @@ pub(crate) enum LineFault {
 
 impl From<OutOfMemory> for LineFault {
     ghost use Rattle.std.specs.Prelude.{◌≡◌};
-    ghost use Rattle.config_text.specs.declared.faults.LineFault.TheVariants.{OutOfMemory as no_memory};
+    ghost use Rattle.config_text.specs.declared.faults.LineFault.TheVariants as fault;
 
-    ghost from_gives = { λ _ e. e ≡ no_memory };
+    ghost from_gives = { λ _ e. e ≡ fault.OutOfMemory };
 
     fn from(_error: OutOfMemory) -> LineFault {
         LineFault::OutOfMemory

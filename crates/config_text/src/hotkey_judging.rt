@@ -2,7 +2,7 @@
 
 ghost use Rattle.std.specs.Prelude.{◌≡◌, ◌++◌, ◌∷◌, [], true, length, IfOk};
 ghost use Rattle.std.specs.List.{list_all};
-ghost use Rattle.hotkey_text.specs.Seen.{form_text, list_text, line_text, screen_text, words_text};
+ghost use Rattle.hotkey_text.specs.Views.{form_text, list_text, line_text, screen_text, words_text};
 ghost use Rattle.config_text.specs.Answering.{Judges};
 ghost use Rattle.config_text.specs.Hotkeys as spec;
 ghost use Rattle.screen_config.specs.SoundHotkeys.{is_action_among};
@@ -40,7 +40,7 @@ fn judged<T: Drop>(read: Result<T, HotkeyFault>) -> Result<T, LineFault>
     }
 }
 
-/// A word more, behind that of a screen, is a fault.
+/// A word more, after that of a screen, is a fault.
 fn nothing_further(further: Option<usize>) -> Result<(), LineFault>
     ensures { Judges (λ x. x) result (spec.nothing_further further) }
 {
@@ -94,8 +94,10 @@ fn action_of(config: &Config, form: ActionForm<'_>) -> Result<Action, LineFault>
 }
 
 fn actions_of(config: &Config, list: ActionList<'_>) -> Result<Vec<Action>, LineFault>
-    ensures judged { Judges (λ v. v.items) result (spec.actions_of config.now (list_text list.entry)) }
-    ensures spelled { IfOk result (λ v. list_all (is_action_among (length config.now.screens)) v.items ≡ true) }
+    ensures judged { Judges (λ v. v.items) result
+        (spec.actions_of config.now (list_text list.entry)) }
+    ensures spelled { IfOk result
+        (λ v. list_all (is_action_among (length config.now.screens)) v.items ≡ true) }
 {
     config.assure_sound();
     let mut actions = Vec::new(config.alloc());
@@ -115,7 +117,8 @@ pub(crate) fn new_hotkey(
     line: HotkeyForm<'_>,
     whole: usize,
 ) -> Result<(), LineFault>
-    ensures judged { Judges (λ _. config.new) result (spec.new_hotkey whole config.old (line_text line.entry)) }
+    ensures judged { Judges (λ _. config.new) result
+        (spec.new_hotkey whole config.old (line_text line.entry)) }
     ensures same_count { length config.new.screens ≡ length config.old.screens }
 {
     let trigger = judged(hotkey_text::trigger(line))?;

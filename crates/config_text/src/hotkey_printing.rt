@@ -63,7 +63,8 @@ fn put_further(config: &Config, actions: &[Action], out: &mut Octets) -> Result<
 }
 
 fn put_actions(config: &Config, actions: &[Action], out: &mut Octets) -> Result<(), OutOfMemory>
-    ensures { OnOk result (out.new ≡ out.old ++ with_commas (map (action_of config.now) actions.now)) }
+    ensures { OnOk result
+        (out.new ≡ out.old ++ with_commas (map (action_of config.now) actions.now)) }
 {
     match actions {
         [] => Ok(()),

@@ -1,13 +1,13 @@
 //! The faults of names and links in what the lines above gave.
 
 ghost use Rattle.std.specs.Prelude.{◌≡◌, false, ◌<◌, ◌≤◌, ◌+◌, IfOk, OnOk, length};
-ghost use Rattle.text_lines.specs.Seen.{word_text};
+ghost use Rattle.text_lines.specs.Views.{word_text};
 ghost use Rattle.screen_links.specs.Adding.{HasGoodRanges};
 ghost use Rattle.screen_links.specs.Ranges.{IsGood};
 ghost use Rattle.config_text.specs.Answering.{Judges};
 ghost use Rattle.config_text.specs.Judging as spec;
 ghost use Rattle.screen_config.specs.Sound.{is_end};
-ghost use Rattle.config_text.specs.Seen.{link_text, maybe_range_text};
+ghost use Rattle.config_text.specs.Views.{link_text, maybe_range_text};
 
 use crate::faults::{ConfigKind, Fault, LineFault};
 use crate::shapes::{LinkText, RangeText};
@@ -63,7 +63,8 @@ pub(crate) fn known_screen(config: &Config, name: Word<'_>) -> Result<u16, LineF
 /// A new screen, in whose line `whole` bytes stand.
 #[tactic(auto, unfolding(crate::specs::Judging::new_screen))]
 pub(crate) fn new_screen(config: &mut Config, name: Word<'_>, whole: usize) -> Result<(), LineFault>
-    ensures judged { Judges (λ _. config.new) result (spec.new_screen whole config.old (word_text name.entry)) }
+    ensures judged { Judges (λ _. config.new) result
+        (spec.new_screen whole config.old (word_text name.entry)) }
     ensures one_more { OnOk result (length config.new.screens ≡ length config.old.screens + 1) }
     ensures no_fewer { length config.old.screens ≤ length config.new.screens }
 {
@@ -92,7 +93,8 @@ pub(crate) fn new_alias(
 ) -> Result<(), LineFault>
     requires known { screen < length config.old.screens }
     requires no_end { is_end name.text.now ≡ false }
-    ensures judged { Judges (λ _. config.new) result (spec.new_alias whole config.old screen (word_text name.entry)) }
+    ensures judged { Judges (λ _. config.new) result
+        (spec.new_alias whole config.old screen (word_text name.entry)) }
     ensures same_count { length config.new.screens ≡ length config.old.screens }
 {
     let Some(kept) = ScreenName::read(name.text) else {
@@ -121,7 +123,8 @@ fn one_link_more(
     requires good { HasGoodRanges link }
     requires leaves { link.from.0 < length config.old.screens }
     requires enters { link.to.0 < length config.old.screens }
-    ensures judged { Judges (λ _. config.new) result (spec.one_link_more whole config.old left link) }
+    ensures judged { Judges (λ _. config.new) result
+        (spec.one_link_more whole config.old left link) }
     ensures same_count { length config.new.screens ≡ length config.old.screens }
 {
     match config.add_link(link) {
@@ -142,7 +145,8 @@ pub(crate) fn new_link(
     whole: usize,
 ) -> Result<(), LineFault>
     requires { from < length config.old.screens }
-    ensures judged { Judges (λ _. config.new) result (spec.new_link whole config.old from (link_text text.entry)) }
+    ensures judged { Judges (λ _. config.new) result
+        (spec.new_link whole config.old from (link_text text.entry)) }
     ensures same_count { length config.new.screens ≡ length config.old.screens }
 {
     let to = known_screen(config, text.name)?;

@@ -3,8 +3,8 @@
 //!
 //! It owns what a configuration holds (`specs/Configurations.antt`), the forms of lines
 //! (`specs/Shapes.antt`), their faults by class (`specs/Judging.antt`), sections
-//! (`specs/Sections.antt`) and which texts are accepted (`specs/Accepting.antt`). It may know nothing
-//! of files, of connections and of what a server does with a configuration.
+//! (`specs/Sections.antt`) and which texts are accepted (`specs/Accepting.antt`). It may know
+//! nothing of files, of connections and of what a server does with a configuration.
 #![tactic(auto)]
 
 mod drafts;

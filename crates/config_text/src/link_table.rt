@@ -37,7 +37,8 @@ pub(crate) fn cell_of(from: u16, side: Side, a: u8) -> usize
 fn put_link(cells: &mut Vec<Option<Link>>, link: Link, count: u16)
     requires { length cells.old.items ≡ count * 400 }
     ensures same_length { length cells.new.items ≡ length cells.old.items }
-    ensures added { (links : List OneLink) → IsTableOf links count cells.old.items → IsTableOf (links ++ link ∷ []) count cells.new.items }
+    ensures added { (links : List OneLink) → IsTableOf links count cells.old.items
+        → IsTableOf (links ++ link ∷ []) count cells.new.items }
 {
     if link.from.0 >= count {
         return;
@@ -52,7 +53,8 @@ fn put_link(cells: &mut Vec<Option<Link>>, link: Link, count: u16)
     cells[cell] = Some(link);
 }
 
-/// The cells of so many screens, each with the first link that begins there, made in one walk over the links.
+/// The cells of `count` screens, each with the first link that begins there, made in one walk over
+/// the links.
 pub(crate) fn link_table(
     alloc: Global,
     links: &[Link],

@@ -2,6 +2,7 @@
 
 ghost use Rattle.std.specs.Prelude.{◌≡◌, ◌<◌, ◌^◌, ◌-◌, length, IfOk, IfErr, Ok, Err};
 ghost use Rattle.std.specs.Str.Lines.{lines};
+ghost use Rattle.text_lines.specs.LineByLine.{all_lines};
 ghost use Rattle.config_text.specs.Lines as spec;
 ghost use Rattle.config_text.specs.Answering.{Answers, PlacedAs, RefusesBy};
 ghost use Rattle.config_text.specs.Accepting.{Accepts, Refuses};
@@ -55,7 +56,8 @@ impl Draft {
 
     fn lines(&mut self, text: &[u8]) -> Result<(), ConfigFault>
         requires { length text.now < 2 ^ 32 - 1 }
-        ensures { Answers (λ _. self.new) result (spec.read_lines 1 self.old (lines text.now)) }
+        ensures { Answers (λ _. self.new) result
+            (all_lines spec.judged 1 self.old (lines text.now)) }
     {
         let mut line = 0;
         let mut rest = text;
@@ -101,17 +103,19 @@ fn read(alloc: Global, text: &[u8]) -> Result<Config, ConfigFault>
 }
 
 /// The configuration that a text of fewer than 4,294,967,295 bytes spells, or its first fault.
-/// `OutOfMemory` comes where memory can't be had.
+/// `OutOfMemory` if memory runs out.
 pub fn parse(alloc: Global, text: &[u8]) -> Result<Config, ConfigFault>
     requires { length text.now < 2 ^ 32 - 1 }
     // What is given is what the text spells.
     ensures found { IfOk result (Accepts text.now) }
-    // What a text spells is given, unless memory is wanting.
-    ensures only { (config : Configuration) → Accepts text.now config → Answers (λ c. c) result (Ok config) }
+    // What a text spells is given, unless memory runs out.
+    ensures only { (config : Configuration) → Accepts text.now config
+        → Answers (λ c. c) result (Ok config) }
     // A refusal is that of the text.
     ensures refused { IfErr result (RefusesBy text.now) }
-    // The text's refusal is given, unless memory is wanting.
-    ensures refuses { (r : Refusal) → Refuses text.now r → Answers {Y = Configuration} (λ c. c) result (Err r) }
+    // The text's refusal is given, unless memory runs out.
+    ensures refuses { (r : Refusal) → Refuses text.now r
+        → Answers {Y = Configuration} (λ c. c) result (Err r) }
 {
     read(alloc, text)
 }

@@ -1,13 +1,14 @@
 //! The normal form of a configuration.
 
-ghost use Rattle.std.specs.Prelude.{◌≡◌, ◌<◌, ◌≤◌, ◌++◌, ◌∷◌, ◌^◌, ◌-◌, [], length, IfSome, OnOk, OnErr, slice_get, if◌then◌else◌, ◌==◌, ◌&&◌, codes};
+ghost use Rattle.std.specs.Prelude.{◌≡◌, ◌<◌, ◌≤◌, ◌++◌, ◌∷◌, ◌^◌, ◌-◌, [], length, IfSome, OnOk};
+ghost use Rattle.std.specs.Prelude.{OnErr, slice_get, if◌then◌else◌, ◌==◌, ◌&&◌, codes};
 ghost use Rattle.std.specs.List.{flat_map};
 ghost use Rattle.text_lines.specs.Reading.{is_empty};
 ghost use Rattle.share_base.specs.Sides.{sides};
 ghost use Rattle.config_text.specs.LinkTables.{IsTableFor};
 ghost use Rattle.config_text.specs.Normal as spec;
 ghost use Rattle.config_text.specs.Normal.{normal};
-ghost use Rattle.config_text.specs.PrintedAgain.{SpellsAgain};
+ghost use Rattle.config_text.specs.RoundTrip.{SpellsAgain};
 ghost use Rattle.screen_config.specs.Values.{name_of};
 
 use crate::hotkey_printing::put_hotkeys;
@@ -74,7 +75,10 @@ fn put_screens_section(
     screens: &[Screen],
     out: &mut Octets,
 ) -> Result<(), OutOfMemory>
-    ensures { OnOk result (out.new ≡ out.old ++ spec.section_of (codes "screens") (flat_map spec.screen_text screens.now)) }
+    ensures { OnOk result
+        (out.new
+        ≡ out.old
+        ++ spec.section_of (codes "screens") (flat_map spec.screen_text screens.now)) }
 {
     let mut below = Octets::new(alloc);
     put_screens(screens, &mut below)?;
@@ -258,7 +262,8 @@ fn put_links(
 }
 
 fn put_aliases_section(config: &Config, alloc: Global, out: &mut Octets) -> Result<(), OutOfMemory>
-    ensures { OnOk result (out.new ≡ out.old ++ spec.section_of (codes "aliases") (spec.aliases_text config.now)) }
+    ensures { OnOk result
+        (out.new ≡ out.old ++ spec.section_of (codes "aliases") (spec.aliases_text config.now)) }
 {
     let mut below = Octets::new(alloc);
     put_aliases(config, alloc, &mut below)?;
@@ -266,7 +271,8 @@ fn put_aliases_section(config: &Config, alloc: Global, out: &mut Octets) -> Resu
 }
 
 fn put_links_section(config: &Config, alloc: Global, out: &mut Octets) -> Result<(), OutOfMemory>
-    ensures { OnOk result (out.new ≡ out.old ++ spec.section_of (codes "links") (spec.links_text config.now)) }
+    ensures { OnOk result
+        (out.new ≡ out.old ++ spec.section_of (codes "links") (spec.links_text config.now)) }
 {
     let table = link_table(alloc, config.links().as_slice(), config.count())?;
     let mut below = Octets::new(alloc);
@@ -275,7 +281,8 @@ fn put_links_section(config: &Config, alloc: Global, out: &mut Octets) -> Result
 }
 
 fn put_options_section(config: &Config, alloc: Global, out: &mut Octets) -> Result<(), OutOfMemory>
-    ensures { OnOk result (out.new ≡ out.old ++ spec.section_of (codes "options") (spec.options_text config.now)) }
+    ensures { OnOk result
+        (out.new ≡ out.old ++ spec.section_of (codes "options") (spec.options_text config.now)) }
 {
     let mut below = Octets::new(alloc);
     put_option_lines(b"\t", config.settings(), &mut below)?;
@@ -283,8 +290,9 @@ fn put_options_section(config: &Config, alloc: Global, out: &mut Octets) -> Resu
     put_section(b"options", below.as_slice(), out)
 }
 
-/// Adds the normal form of a configuration. That text has fewer than 4,294,967,295 bytes, as `parse` wants;
-/// it is accepted, and spells a configuration of the same value. After `OutOfMemory` nothing was added.
+/// Adds the normal form of a configuration. That text has fewer than 4,294,967,295 bytes, as
+/// `parse` wants; it is accepted, and spells a configuration of the same value. After `OutOfMemory`
+/// nothing was added.
 #[tactic(auto, unfolding(crate::specs::Normal::normal))]
 pub fn print(alloc: Global, config: &Config, out: &mut Octets) -> Result<(), OutOfMemory>
     ensures ok { OnOk result (out.new ≡ out.old ++ normal config.now) }

@@ -95,7 +95,8 @@ fn texts() -> [Printed; 4] {
     [
         Printed(
             b"",
-            b"section: screens\nend\nsection: aliases\nend\nsection: links\nend\nsection: options\nend\n",
+            b"section: screens\nend\nsection: aliases\nend\nsection: links\nend\n\
+            section: options\nend\n",
         ),
         Printed(three_screens(), three_screens_again()),
         Printed(every_option(), every_option()),
@@ -124,16 +125,20 @@ fn hotkeys() -> [Printed; 15] {
             b"keystroke(1) = mousebutton(1), mouseDown(Alt+2), mouseUp(255)",
         ),
         Printed(
-            b"keystroke(~) = lockCursorToScreen(on), lockCursorToScreen(off);lockCursorToScreen(toggle)",
-            b"keystroke(~) = lockCursorToScreen(on), lockCursorToScreen(off); lockCursorToScreen(toggle)",
+            b"keystroke(~) = lockCursorToScreen(on), lockCursorToScreen(off);\
+            lockCursorToScreen(toggle)",
+            b"keystroke(~) = lockCursorToScreen(on), lockCursorToScreen(off); \
+            lockCursorToScreen(toggle)",
         ),
         Printed(
             b"keystroke(f1) = switchToScreen(DESK); switchToScreen(tablet)",
             b"keystroke(F1) = switchToScreen(desk); switchToScreen(pad)",
         ),
         Printed(
-            b"keystroke(a) = switchInDirection(left), switchInDirection(up); switchInDirection(down)",
-            b"keystroke(a) = switchInDirection(left), switchInDirection(up); switchInDirection(down)",
+            b"keystroke(a) = switchInDirection(left), switchInDirection(up); \
+            switchInDirection(down)",
+            b"keystroke(a) = switchInDirection(left), switchInDirection(up); \
+            switchInDirection(down)",
         ),
         Printed(
             b"keystroke(super+meta+alt+control+shift+F12) = ;",
@@ -156,14 +161,17 @@ fn hotkeys() -> [Printed; 15] {
             b"keystroke(a) = ;\n\tkeystroke(A) = ;\n\tkeystroke(a) = ;",
         ),
         Printed(
-            b"keystroke(b) = keyDown(c)\n\tswitchDelay = 9\n\tkeystroke(a) = keyUp(c)\n\theartbeat = 7",
-            b"heartbeat = 7\n\tswitchDelay = 9\n\tkeystroke(b) = keyDown(c)\n\tkeystroke(a) = keyUp(c)",
+            b"keystroke(b) = keyDown(c)\n\tswitchDelay = 9\n\tkeystroke(a) = keyUp(c)\n\
+            \theartbeat = 7",
+            b"heartbeat = 7\n\tswitchDelay = 9\n\tkeystroke(b) = keyDown(c)\n\
+            \tkeystroke(a) = keyUp(c)",
         ),
     ]
 }
 
 const ABOVE: &[u8] =
-    b"section: screens\n\tdesk:\n\tpad:\nend\nsection: aliases\n\tpad:\n\t\ttablet\nend\nsection: links\nend\nsection: options\n\t";
+    b"section: screens\n\tdesk:\n\tpad:\nend\nsection: aliases\n\tpad:\n\t\ttablet\nend\n\
+    section: links\nend\nsection: options\n\t";
 
 fn expect_printed(
     rt: &impl Abort,

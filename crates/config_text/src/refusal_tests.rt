@@ -66,13 +66,15 @@ fn refused_texts() -> [Refused; 24] {
             UnknownScreen,
         ),
         Refused(
-            b"section: screens\n\tdesk:\nend\nsection: links\n\tdesk:\n\t\tright(0,60) = desk\n\t\tright(50,100) = desk\nend",
+            b"section: screens\n\tdesk:\nend\nsection: links\n\tdesk:\n\t\tright(0,60) = desk\n\
+            \t\tright(50,100) = desk\nend",
             7,
             3,
             Overlap,
         ),
         Refused(
-            b"section: screens\n\tdesk:\nend\nsection: links\n\tdesk:\n\t\tright(0,60) = desk\n\t\tright(50,100) = desk(5,5)\nend",
+            b"section: screens\n\tdesk:\nend\nsection: links\n\tdesk:\n\t\tright(0,60) = desk\n\
+            \t\tright(50,100) = desk(5,5)\nend",
             7,
             23,
             BadRange,
@@ -342,8 +344,8 @@ const LINKS: &[u8] = b"section: screens\na:\nend\nsection: links\na:\n";
 
 const OPTIONS: &[u8] = b"section: screens\na:\nend\nsection: options\n";
 
-const HOTKEYS: &[u8] =
-    b"section: screens\ndesk:\npad:\nend\nsection: aliases\npad:\ntablet\nend\nsection: options\n\t";
+const HOTKEYS: &[u8] = b"section: screens\ndesk:\npad:\nend\nsection: aliases\npad:\ntablet\nend\n\
+    section: options\n\t";
 
 #[test]
 fn each_text_is_refused_at_its_place(rt: HostRuntime) -> Result<(), Fail> {

@@ -41,7 +41,7 @@ impl Section {
         }
     }
 
-    /// The section of that name. `None` comes exactly where none has it.
+    /// The section of that name. `None` if none has it.
     #[tactic(auto, unfolding(crate::specs::Sections::section_named))]
     pub fn named(text: &[u8]) -> Option<Section>
         ensures { result ≡ spec.section_named text.now }

@@ -1,10 +1,12 @@
-//! The forms of lines. An error says how many bytes of the line were left where its form can't go on.
+//! The forms of lines. An error says how many bytes of the line were left where its form can't go
+//! on.
 
 ghost use Rattle.std.specs.Prelude.{◌≡◌};
 ghost use Rattle.text_lines.specs.Reading.{Gives};
-ghost use Rattle.text_lines.specs.Seen.{word_text};
-ghost use Rattle.config_text.specs.Shapes.{section_at, header_at, alias_at, range_at, maybe_range_at, link_at, setting_at};
-ghost use Rattle.config_text.specs.Seen.{range_text, maybe_range_text, link_text, setting_text};
+ghost use Rattle.text_lines.specs.Views.{word_text};
+ghost use Rattle.config_text.specs.Shapes.{section_at, header_at, alias_at, range_at};
+ghost use Rattle.config_text.specs.Shapes.{maybe_range_at, link_at, setting_at};
+ghost use Rattle.config_text.specs.Views.{range_text, maybe_range_text, link_text, setting_text};
 
 use share_base::Side;
 use text_lines::{Word, WordKind, end, literal, number, run, sign, unblanked, whole_word};

@@ -211,8 +211,8 @@ fn every_action() -> [Action; 11] {
     ]
 }
 
-const DESK: &[u8] =
-    b"section: screens\ndesk:\npad:\nend\nsection: aliases\npad:\ntablet\nend\nsection: options\n\t";
+const DESK: &[u8] = b"section: screens\ndesk:\npad:\nend\nsection: aliases\npad:\ntablet\nend\n\
+    section: options\n\t";
 
 fn with_options(alloc: Global, lines: &[u8]) -> Result<Config, Fail> {
     let mut text = Octets::new(alloc);
@@ -226,7 +226,10 @@ fn with_options(alloc: Global, lines: &[u8]) -> Result<Config, Fail> {
 fn every_action_is_read(rt: HostRuntime) -> Result<(), Fail> {
     let config = with_options(
         rt.alloc(),
-        b"keystroke(Alt+F2) = keystroke(a), keyDown(super+Meta+ALT+Control+Shift+shift_l), keyUp(Control+BACKSPACE),mousebutton(1),mouseDown(Meta+255) , mouseUp(10), lockCursorToScreen(on), lockCursorToScreen(toggle), switchToScreen(DESK), switchToScreen(Tablet), switchInDirection(up)",
+        b"keystroke(Alt+F2) = keystroke(a), keyDown(super+Meta+ALT+Control+Shift+shift_l), \
+        keyUp(Control+BACKSPACE),mousebutton(1),mouseDown(Meta+255) , mouseUp(10), \
+        lockCursorToScreen(on), lockCursorToScreen(toggle), switchToScreen(DESK), \
+        switchToScreen(Tablet), switchInDirection(up)",
     )?;
     let rules = config.rules();
     let found = rules.find_key(KeyId(0xefbf), Mask(4));
@@ -252,7 +255,8 @@ fn press(id: u16, place: u16) -> Action {
 fn keys_are_numbered_as_they_first_come(rt: HostRuntime) -> Result<(), Fail> {
     let config = with_options(
         rt.alloc(),
-        b"keystroke(z) = keyDown(b); keyDown(a), keyDown(b)\nmousebutton(3) = keyDown(a), keyDown(c)\n",
+        b"keystroke(z) = keyDown(b); keyDown(a), keyDown(b)\n\
+        mousebutton(3) = keyDown(a), keyDown(c)\n",
     )?;
     let rules = config.rules();
     assert_eq!(rt; rules.len(), 2);

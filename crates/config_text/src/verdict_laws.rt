@@ -20,15 +20,17 @@ pub fn each_text_has_one_verdict()
     ensures one { (text : List ℕ) (v w : Verdict) → HasVerdict text v → HasVerdict text w → v ≡ w }
 {}
 
-/// A line of screens, aliases or links that is neither a header nor `end`, and has no header above it in its
-/// section, is a bad line from its first byte on, whatever its words are.
+/// A line of screens, aliases or links that is neither a header nor `end`, and has no header above
+/// it in its section, is a bad line from its first byte on, whatever its words are.
 pub fn lines_need_a_header()
-    ensures { (line : ℕ) (d : Lines) (o : OpenSection) (raw xs : List ℕ) (end : ℕ) → d.opened ≡ Some o → o.section ≢ section.Options
+    ensures { (line : ℕ) (d : Lines) (o : OpenSection) (raw xs : List ℕ) (end : ℕ)
+        → d.opened ≡ Some o → o.section ≢ section.Options
         → d.header ≡ None → line_text raw ≡ Words xs end → is_end xs ≡ false → is_header xs ≡ false
         → judged line d raw ≡ Err (refused line (end - length xs + 1) kind.BadLine) }
 {}
 
 /// Configurations of the same value have the same normal form.
 pub fn normal_form_is_of_the_value()
-    ensures { (one other : Configuration) → value_of one ≡ value_of other → normal one ≡ normal other }
+    ensures { (one other : Configuration) → value_of one ≡ value_of other
+        → normal one ≡ normal other }
 {}

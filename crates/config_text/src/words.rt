@@ -5,9 +5,9 @@ ghost use Rattle.option_table.specs.Table.{row_of};
 ghost use Rattle.option_table.specs.Values.{suits};
 ghost use Rattle.config_text.specs.Answering.{Judges};
 ghost use Rattle.config_text.specs.Judging as spec;
-ghost use Rattle.option_table.specs.Standing.{stands_below_screen, stands_for_all};
+ghost use Rattle.option_table.specs.Scopes.{stands_below_screen, stands_for_all};
 ghost use Rattle.config_text.specs.Judging.{new_setting};
-ghost use Rattle.config_text.specs.Seen.{setting_text};
+ghost use Rattle.config_text.specs.Views.{setting_text};
 
 use crate::faults::{ConfigKind, Fault, LineFault};
 use crate::shapes::SettingText;
@@ -81,7 +81,8 @@ fn is_for_all(scope: Scope) -> bool
 /// The option of a line below a screen's header.
 #[tactic(auto, unfolding(crate::specs::Judging::new_setting))]
 pub(crate) fn own_setting(text: SettingText<'_>) -> Result<Setting, LineFault>
-    ensures judged { Judges (λ x. x) result (new_setting stands_below_screen (setting_text text.entry)) }
+    ensures judged { Judges (λ x. x) result
+        (new_setting stands_below_screen (setting_text text.entry)) }
     ensures stands { IfOk result (λ s. stands_below_screen (row_of s.option).scope ≡ true) }
     ensures suits { IfOk result (λ s. suits (row_of s.option).form s.value ≡ true) }
 {

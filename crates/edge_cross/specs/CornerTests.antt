@@ -10,4 +10,5 @@ lists corners corner = not (bit_and corners.set corner == 0)
 abbrev pub is_in_corner : Corners → Side → ℕ → ℕ → Bool
 is_in_corner corners side p n =
     nat_lt 0 corners.size
-    && ((nat_lt p corners.size && lists corners (near_corner side)) || (nat_le n (p + corners.size) && lists corners (far_corner side)))
+    && ((nat_lt p corners.size && lists corners (near_corner side))
+    || (nat_le n (p + corners.size) && lists corners (far_corner side)))

@@ -37,5 +37,7 @@ side_length Vertical shape = shape.w
 
 -- the edge is the side of that axis that the point has passed; no edge if it has passed neither
 abbrev pub Leaves : Option Edge → Axis → Shape → ℤ → ℤ → Type 0
-Leaves (Some edge) axis shape x y = (axis_of edge.side ≡ axis) × Past edge.side shape x y × (pos edge.p ≡ pixel_along axis shape x y)
+Leaves (Some edge) axis shape x y =
+    (axis_of edge.side ≡ axis) × Past edge.side shape x y
+    × (pos edge.p ≡ pixel_along axis shape x y)
 Leaves None axis shape x y = (side : Side) → axis_of side ≡ axis → Past side shape x y → ⊥

@@ -1,5 +1,7 @@
--- What the switch gate answers, as a function of the calls since it was made or reset, newest first.
-use Rattle.std.specs.Prelude.{◌≡◌, ℕ, ◌+◌, ◌-◌, ◌<◌, Bool, true, false, ◌&&◌, nat_lt, nat_le, if◌then◌else◌, List, [], ◌∷◌, Option, Some, None}
+-- What the switch gate answers, as a function of the calls since it was made or reset, newest
+-- first.
+use Rattle.std.specs.Prelude.{◌≡◌, ℕ, ◌+◌, ◌-◌, ◌<◌, Bool, true, false, ◌&&◌, nat_lt, nat_le}
+use Rattle.std.specs.Prelude.{if◌then◌else◌, List, [], ◌∷◌, Option, Some, None}
 use Rattle.share_base.specs.declared.shape.Side.{Side}
 use Rattle.share_base.specs.Shapes.{same_side}
 use Rattle.share_base.specs.Moments.{moment_of}
@@ -30,7 +32,8 @@ abbrev pub kept_tap : ℕ → List Call → Option Tap
 kept_tap time [] = None
 kept_tap time (Away ∷ calls) = kept_tap time calls
 kept_tap time (Ask now side ∷ calls) =
-    if repeats time (kept_tap time calls) now side then kept_tap time calls else Some (record { at = now; side = side })
+    if repeats time (kept_tap time calls) now side then kept_tap time calls
+    else Some (record { at = now; side = side })
 
 -- whether the motion was away since the kept tap
 abbrev pub was_away : ℕ → List Call → Bool
@@ -67,10 +70,12 @@ wait_answer delay calls now side = answer_at now (wait_of delay (kept_wait delay
 
 abbrev pub gate_answer : ℕ → ℕ → List Call → ℕ → Side → GateAnswer
 gate_answer delay time calls now side =
-    if nat_lt 0 time then tap_answer time calls now side else if nat_lt 0 delay then wait_answer delay calls now side else Pass
+    if nat_lt 0 time then tap_answer time calls now side else if nat_lt 0 delay
+    then wait_answer delay calls now side else Pass
 
 abbrev pub gate_wait : ℕ → ℕ → List Call → Option Waiting
-gate_wait delay time calls = if nat_lt 0 time then None else if nat_lt 0 delay then kept_wait delay calls else None
+gate_wait delay time calls =
+    if nat_lt 0 time then None else if nat_lt 0 delay then kept_wait delay calls else None
 
 -- the gate is the result of these calls
 pub record Represents (gate : Gate) (delay time : ℕ) (calls : List Call) : Type 0 where
@@ -85,11 +90,14 @@ pub record Represents (gate : Gate) (delay time : ℕ) (calls : List Call) : Typ
 -- the call is added
 abbrev pub Hears : Gate → Gate → Call → Type 0
 Hears old new call =
-    (delay time : ℕ) (calls : List Call) → Represents old delay time calls → Represents new delay time (call ∷ calls)
+    (delay time : ℕ) (calls : List Call) → Represents old delay time calls
+    → Represents new delay time (call ∷ calls)
 
 -- all calls are forgotten
 abbrev pub Forgets : Gate → Gate → Type 0
-Forgets old new = (delay time : ℕ) (calls : List Call) → Represents old delay time calls → Represents new delay time []
+Forgets old new =
+    (delay time : ℕ) (calls : List Call) → Represents old delay time calls
+    → Represents new delay time []
 
 abbrev pub Answers : Gate → ℕ → Side → GateAnswer → Type 0
 Answers gate now side answer =
@@ -97,4 +105,6 @@ Answers gate now side answer =
     → answer ≡ gate_answer delay time calls (moment_of now) side
 
 abbrev pub Waits : Gate → Option Waiting → Type 0
-Waits gate wait = (delay time : ℕ) (calls : List Call) → Represents gate delay time calls → wait ≡ gate_wait delay time calls
+Waits gate wait =
+    (delay time : ℕ) (calls : List Call) → Represents gate delay time calls
+    → wait ≡ gate_wait delay time calls

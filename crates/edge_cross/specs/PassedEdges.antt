@@ -1,5 +1,6 @@
 -- The edge that a point has passed, as an answer.
-use Rattle.std.specs.Prelude.{Bool, true, false, ℤ, ◌+ℤ◌, int_lt, int_le, nat_abs, Option, Some, None}
+use Rattle.std.specs.Prelude.{Bool, true, false, ℤ, ◌+ℤ◌, int_lt, int_le, nat_abs, Option, Some}
+use Rattle.std.specs.Prelude.{None}
 use Rattle.std.specs.Option.{option_map}
 use Rattle.share_base.specs.declared.shape.Shape.{Shape}
 use Rattle.share_base.specs.declared.shape.Side.{Side}
@@ -20,7 +21,8 @@ passed false true near far = Some far
 passed false false near far = None
 
 abbrev pub side_passed : Axis → Shape → ℤ → ℤ → Option Side
-side_passed Horizontal shape x y = passed (int_lt x shape.x) (int_le (shape.x +ℤ shape.w) x) Left Right
+side_passed Horizontal shape x y =
+    passed (int_lt x shape.x) (int_le (shape.x +ℤ shape.w) x) Left Right
 side_passed Vertical shape x y = passed (int_lt y shape.y) (int_le (shape.y +ℤ shape.h) y) Up Down
 
 abbrev pub edge_passed : Axis → Shape → ℤ → ℤ → Option Edge

@@ -14,9 +14,10 @@ const BOTTOM_LEFT: u8 = 4;
 
 const BOTTOM_RIGHT: u8 = 8;
 
-/// Returns whether pixel `p` of a side of `n` pixels lies in a listed corner. The near corner of the left
-/// and the right side is the top one; that of the upper and the lower side is the left one. `p` and `n`
-/// are in pixels, and so is the corners' size; at size 0 no pixel lies in a corner. Does not allocate.
+/// Returns whether pixel `p` of a side of `n` pixels lies in a listed corner. The near corner of
+/// the left and the right side is the top one; that of the upper and the lower side is the left
+/// one. `p` and `n` are in pixels, and so is the corners' size; at size 0 no pixel lies in a
+/// corner. Does not allocate.
 pub fn in_corner(corners: Corners, side: Side, p: u32, n: u32) -> bool
     ensures { IsTrue result ↔ InCorner corners side p n }
 {

@@ -25,9 +25,9 @@ pub struct Edge {
     pub p: u32,
 }
 
-/// Returns the edge of a screen that a point has passed on one axis, or `None` if the point's coordinate
-/// on that axis is inside the shape. The pixel is the other coordinate, clamped into the shape and counted
-/// from its first pixel. Does not allocate.
+/// Returns the edge of a screen that a point has passed on one axis, or `None` if the point's
+/// coordinate on that axis is inside the shape. The pixel is the other coordinate, clamped into the
+/// shape and counted from its first pixel. Does not allocate.
 pub fn leaves(shape: &Shape, x: i32, y: i32, across: Axis) -> Option<Edge>
     requires { IsScreenShape shape.now }
     ensures leaves { Leaves result across shape.now x y }

@@ -37,9 +37,10 @@ struct Tap {
     side: Side,
 }
 
-/// The gate between two screens. With a double-tap time, only the second of two taps on an edge passes;
-/// with a delay, only a motion that stays at the edge for that long. If both are set, the double tap
-/// alone counts. A gate represents the calls since it was made or reset. No method allocates.
+/// The gate between two screens. With a double-tap time, only the second of two taps on an edge
+/// passes; with a delay, only a motion that stays at the edge for that long. If both are set, the
+/// double tap alone counts. A gate represents the calls since it was made or reset. No method
+/// allocates.
 #[derive(Debug, Drop)]
 pub struct Gate {
     delay: u32,
@@ -50,9 +51,9 @@ pub struct Gate {
 }
 
 impl Gate {
-    /// Creates a gate that was asked nothing yet. `delay` is how long a motion stays at an edge before it
-    /// passes, and `tap` is the longest time between two taps, both in milliseconds; 0 switches that
-    /// option off.
+    /// Creates a gate that was asked nothing yet. `delay` is how long a motion stays at an edge
+    /// before it passes, and `tap` is the longest time between two taps, both in milliseconds; 0
+    /// switches that option off.
     pub fn new(delay: u32, tap: u32) -> Gate
         ensures { Represents result delay tap [] }
     {
@@ -92,8 +93,8 @@ impl Gate {
         answer_at(now, wait)
     }
 
-    /// Tells the gate that the motion is away from the edge: the kept tap may be repeated from now on,
-    /// and a wait ends.
+    /// Tells the gate that the motion is away from the edge: the kept tap may be repeated from now
+    /// on, and a wait ends.
     pub fn away(&mut self)
         ensures { Hears self.old self.new Away }
     {
@@ -110,7 +111,8 @@ impl Gate {
         self.waiting = None;
     }
 
-    /// Returns the edge that the gate waits for and when to try it again, or `None` if it waits for none.
+    /// Returns the edge that the gate waits for and when to try it again, or `None` if it waits for
+    /// none.
     pub fn due(&self) -> Option<Waiting>
         ensures { Waits self.now result }
     {

@@ -10,10 +10,11 @@ ghost use Rattle.edge_cross.specs.InCorners.{InCorner};
 ghost use Rattle.edge_cross.specs.PassedEdges.{edge_passed};
 ghost use Rattle.edge_cross.specs.CornerTests.{is_in_corner};
 
-/// The edge that is computed is the one that the point has passed, and none is computed if it has passed
-/// none.
+/// The edge that is computed is the one that the point has passed, and none is computed if it has
+/// passed none.
 pub fn edge_is_passed()
-    ensures { (axis : OneAxis) (shape : OneShape) (x y : ℤ) → Leaves (edge_passed axis shape x y) axis shape x y }
+    ensures { (axis : OneAxis) (shape : OneShape) (x y : ℤ)
+        → Leaves (edge_passed axis shape x y) axis shape x y }
 {}
 
 /// A pixel is computed to lie in a listed corner if and only if it does.

@@ -1,8 +1,8 @@
-//! What a motion meets at the edge of a screen: the side that it passes, corners that block it, and the
-//! gate that it asks before the screens switch.
+//! What a motion meets at the edge of a screen: the side that it passes, corners that block it, and
+//! the gate that it asks before the screens switch.
 //!
-//! The crate owns edges (`specs/Edges.antt`), corners (`specs/InCorners.antt`) and the gate's answers
-//! (`specs/Gates.antt`). It must not know links or the machine. No call allocates.
+//! The crate owns edges (`specs/Edges.antt`), corners (`specs/InCorners.antt`) and the gate's
+//! answers (`specs/Gates.antt`). It must not know links or the machine. No call allocates.
 #![tactic(auto)]
 
 mod corner;

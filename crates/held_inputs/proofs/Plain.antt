@@ -33,13 +33,17 @@ may-plain xs (Grab clip) p = tt
 may-plain xs (Clip clip bytes) p = tt
 may-plain xs l p = absurd p
 
-pub stands-with_lines : (i : Injector) (s : Screen) (more : List Line) → AllByRecursion IsPlain more → Stands i s → Stands i (with_lines s more)
+pub stands-with_lines : (i : Injector) (s : Screen) (more : List Line) → AllByRecursion IsPlain more
+    → Stands i s → Stands i (with_lines s more)
 stands-with_lines i s [] p h = rw (append-nil s.lines) h
 stands-with_lines i s (l ∷ more) p h =
-    subst (λ (t : List Line). Stands i (record { lines = t; mods = s.mods })) (append_assoc s.lines (l ∷ []) more)
-    (stands-with_lines i (with_lines s (l ∷ [])) more p.1 (stands-plain i s l (no_key l p.0) (no_button l p.0) h))
+    subst (λ (t : List Line). Stands i (record { lines = t; mods = s.mods }))
+    (append_assoc s.lines (l ∷ []) more)
+    (stands-with_lines i (with_lines s (l ∷ [])) more p.1
+    (stands-plain i s l (no_key l p.0) (no_button l p.0) h))
 
 pub good-plain : (xs more : List Line) → AllByRecursion IsPlain more → Good xs → Good (xs ++ more)
 good-plain xs [] p h = rw (append-nil xs) h
 good-plain xs (l ∷ more) p h =
-    subst Good (append_assoc xs (l ∷ []) more) (good-plain (xs ++ l ∷ []) more p.1 (good-step xs l h (may-plain xs l p.0)))
+    subst Good (append_assoc xs (l ∷ []) more)
+    (good-plain (xs ++ l ∷ []) more p.1 (good-step xs l h (may-plain xs l p.0)))

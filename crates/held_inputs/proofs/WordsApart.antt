@@ -1,5 +1,6 @@
 -- The words of a text are found again, since each byte of them is above the blank.
-use Rattle.std.proofs.Common.{◌≡◌, ◌∙◌, ap, sym, refl, ℕ, suc, ◌+◌, ◌<◌, ◌≤◌, ◌^◌, ◌/◌, ◌%◌, List, [], ◌∷◌, ◌++◌, append_assoc, arith}
+use Rattle.std.proofs.Common.{◌≡◌, ◌∙◌, ap, sym, refl, ℕ, suc, ◌+◌, ◌<◌, ◌≤◌, ◌^◌, ◌/◌, ◌%◌, List}
+use Rattle.std.proofs.Common.{[], ◌∷◌, ◌++◌, append_assoc, arith}
 use Rattle.std.specs.Prelude.{ℤ, pos, negsuc, Bool, true, ltb, ◌&&◌, FitsSigned}
 use Rattle.std.specs.Int.{w16}
 use Rattle.std.specs.Int.Signed.{mag}
@@ -27,7 +28,9 @@ dark-append [] b h k = k
 dark-append (x ∷ a) b h k = (h.0, dark-append a b h.1 k)
 
 pub dark-decimal : (n : ℕ) → n < 2 ^ 64 → Dark (decimal n)
-dark-decimal n lt = decimal_by_steps (λ m ds. Dark ds) (λ m small. (omega arith, tt)) (λ m ds big h. dark-append ds ((48 + m % 10) ∷ []) h (omega arith, tt)) n lt
+dark-decimal n lt =
+    decimal_by_steps (λ m ds. Dark ds) (λ m small. (omega arith, tt))
+    (λ m ds big h. dark-append ds ((48 + m % 10) ∷ []) h (omega arith, tt)) n lt
 
 -- how large a number of two bytes with a sign is
 pub mag_of_two : (z : ℤ) → FitsSigned w16 z → mag z < 2 ^ 15
@@ -55,13 +58,17 @@ is_dark (b ∷ bs) = ltb 32 b && is_dark bs
 
 pub dark-tested : (w : List ℕ) → is_dark w ≡ true → Dark w
 dark-tested [] e = tt
-dark-tested (b ∷ bs) e = let p = and_parts (ltb 32 b) (is_dark bs) e in (ltb-true 32 b p.0, dark-tested bs p.1)
+dark-tested (b ∷ bs) e =
+    let p = and_parts (ltb 32 b) (is_dark bs) e in (ltb-true 32 b p.0, dark-tested bs p.1)
 
 -- two words before signs that are not above the blank
-word-apart : (a b x y : List ℕ) (s t : ℕ) → s ≤ 32 → t ≤ 32 → Dark a → Dark b → a ++ s ∷ x ≡ b ++ t ∷ y → (a ≡ b) × (s ≡ t) × (x ≡ y)
+word-apart : (a b x y : List ℕ) (s t : ℕ) → s ≤ 32 → t ≤ 32 → Dark a → Dark b
+    → a ++ s ∷ x ≡ b ++ t ∷ y → (a ≡ b) × (s ≡ t) × (x ≡ y)
 word-apart [] [] x y s t hs ht da db e = (refl, cc, cc)
-word-apart [] (c ∷ b) x y s t hs ht da db e = absurd (let q : s ≡ c = cc in let r : 32 < c = db.0 in omega arith)
-word-apart (c ∷ a) [] x y s t hs ht da db e = absurd (let q : c ≡ t = cc in let r : 32 < c = da.0 in omega arith)
+word-apart [] (c ∷ b) x y s t hs ht da db e =
+    absurd (let q : s ≡ c = cc in let r : 32 < c = db.0 in omega arith)
+word-apart (c ∷ a) [] x y s t hs ht da db e =
+    absurd (let q : c ≡ t = cc in let r : 32 < c = da.0 in omega arith)
 word-apart (c ∷ a) (d ∷ b) x y s t hs ht da db e =
     let q : c ≡ d = cc in
     let r : a ++ s ∷ x ≡ b ++ t ∷ y = cc in
@@ -72,19 +79,34 @@ word-apart (c ∷ a) (d ∷ b) x y s t hs ht da db e =
 text-last : (w x : List ℕ) → text w [] ++ x ≡ w ++ 10 ∷ x
 text-last w x = ap (λ (t : List ℕ). (t ++ 10 ∷ []) ++ x) (append-nil w) ∙ append_assoc w (10 ∷ []) x
 
-text-more : (w u : List ℕ) (us : List (List ℕ)) (x : List ℕ) → text w (u ∷ us) ++ x ≡ w ++ 32 ∷ (text u us ++ x)
-text-more w u us x = ap (λ (t : List ℕ). t ++ x) (append_assoc w (32 ∷ (u ++ flat_map after_blank us)) (10 ∷ [])) ∙ append_assoc w (32 ∷ text u us) x
+text-more : (w u : List ℕ) (us : List (List ℕ)) (x : List ℕ)
+    → text w (u ∷ us) ++ x ≡ w ++ 32 ∷ (text u us ++ x)
+text-more w u us x =
+    ap (λ (t : List ℕ). t ++ x) (append_assoc w (32 ∷ (u ++ flat_map after_blank us)) (10 ∷ []))
+    ∙ append_assoc w (32 ∷ text u us) x
 
 -- the words of two equal texts are equal, and so is what follows them
-pub words-apart : (v w : List ℕ) (vs ws : List (List ℕ)) (x y : List ℕ) → Dark v → Dark w → AllDark vs → AllDark ws → text v vs ++ x ≡ text w ws ++ y → (v ≡ w) × (vs ≡ ws) × (x ≡ y)
+pub words-apart : (v w : List ℕ) (vs ws : List (List ℕ)) (x y : List ℕ) → Dark v → Dark w
+    → AllDark vs → AllDark ws → text v vs ++ x ≡ text w ws ++ y → (v ≡ w) × (vs ≡ ws) × (x ≡ y)
 words-apart v w [] [] x y dv dw dvs dws e =
-    let p = word-apart v w x y 10 10 (omega arith) (omega arith) dv dw (sym (text-last v x) ∙ e ∙ text-last w y) in (p.0, refl, p.2)
+    let p =
+    word-apart v w x y 10 10 (omega arith) (omega arith) dv dw
+    (sym (text-last v x) ∙ e ∙ text-last w y) in
+    (p.0, refl, p.2)
 words-apart v w [] (u ∷ ws) x y dv dw dvs dws e =
-    absurd (let p = word-apart v w x (text u ws ++ y) 10 32 (omega arith) (omega arith) dv dw (sym (text-last v x) ∙ e ∙ text-more w u ws y) in let q : 10 ≡ 32 = p.1 in omega arith)
+    absurd
+    (let p = word-apart v w x (text u ws ++ y) 10 32 (omega arith) (omega arith) dv dw
+    (sym (text-last v x) ∙ e ∙ text-more w u ws y) in
+    let q : 10 ≡ 32 = p.1 in omega arith)
 words-apart v w (u ∷ vs) [] x y dv dw dvs dws e =
-    absurd (let p = word-apart v w (text u vs ++ x) y 32 10 (omega arith) (omega arith) dv dw (sym (text-more v u vs x) ∙ e ∙ text-last w y) in let q : 32 ≡ 10 = p.1 in omega arith)
+    absurd
+    (let p = word-apart v w (text u vs ++ x) y 32 10 (omega arith) (omega arith) dv dw
+    (sym (text-more v u vs x) ∙ e ∙ text-last w y) in
+    let q : 32 ≡ 10 = p.1 in omega arith)
 words-apart v w (u ∷ vs) (t ∷ ws) x y dv dw dvs dws e =
-    let p = word-apart v w (text u vs ++ x) (text t ws ++ y) 32 32 (omega arith) (omega arith) dv dw (sym (text-more v u vs x) ∙ e ∙ text-more w t ws y) in
+    let p =
+    word-apart v w (text u vs ++ x) (text t ws ++ y) 32 32 (omega arith) (omega arith) dv dw
+    (sym (text-more v u vs x) ∙ e ∙ text-more w t ws y) in
     let r = words-apart u t vs ws x y dvs.0 dws.0 dvs.1 dws.1 p.2 in
     (p.0, rw (r.0, r.1) refl, r.2)
 
@@ -93,7 +115,8 @@ words-apart v w (u ∷ vs) (t ∷ ws) x y dv dw dvs dws e =
 digit-injective : (a b : ℕ) → hex_digit a ≡ hex_digit b → a < 16 → b < 16 → a ≡ b
 digit-injective a b e p q = grind (arith, nat_tests)
 
-pairs-injective : (a b : List ℕ) → AllByRecursion (λ byte. byte < 2 ^ 8) a → AllByRecursion (λ byte. byte < 2 ^ 8) b → flat_map hex_pair a ≡ flat_map hex_pair b → a ≡ b
+pairs-injective : (a b : List ℕ) → AllByRecursion (λ byte. byte < 2 ^ 8) a
+    → AllByRecursion (λ byte. byte < 2 ^ 8) b → flat_map hex_pair a ≡ flat_map hex_pair b → a ≡ b
 pairs-injective [] [] p q e = refl
 pairs-injective [] (y ∷ b) p q e = absurd (let f : ⊥ = cc in f)
 pairs-injective (x ∷ a) [] p q e = absurd (let f : ⊥ = cc in f)
@@ -111,8 +134,11 @@ pairs-injective (x ∷ a) (y ∷ b) p q e =
 no_dash : (d : ℕ) → hex_digit d ≡ 45 → ⊥
 no_dash d e = grind (arith, nat_tests)
 
-pub hex-injective : (a b : List ℕ) → AllByRecursion (λ byte. byte < 2 ^ 8) a → AllByRecursion (λ byte. byte < 2 ^ 8) b → hex a ≡ hex b → a ≡ b
+pub hex-injective : (a b : List ℕ) → AllByRecursion (λ byte. byte < 2 ^ 8) a
+    → AllByRecursion (λ byte. byte < 2 ^ 8) b → hex a ≡ hex b → a ≡ b
 hex-injective [] [] p q e = refl
-hex-injective [] (y ∷ b) p q e = absurd (no_dash (y / 16) (let f : hex_digit (y / 16) ≡ 45 = cc in f))
-hex-injective (x ∷ a) [] p q e = absurd (no_dash (x / 16) (let f : hex_digit (x / 16) ≡ 45 = cc in f))
+hex-injective [] (y ∷ b) p q e =
+    absurd (no_dash (y / 16) (let f : hex_digit (y / 16) ≡ 45 = cc in f))
+hex-injective (x ∷ a) [] p q e =
+    absurd (no_dash (x / 16) (let f : hex_digit (x / 16) ≡ 45 = cc in f))
 hex-injective (x ∷ a) (y ∷ b) p q e = pairs-injective (x ∷ a) (y ∷ b) p q e

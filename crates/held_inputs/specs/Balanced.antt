@@ -1,8 +1,10 @@
 -- Lines that leave nothing down.
-use Rattle.std.specs.Prelude.{◌≡◌, ℕ, zero, suc, List, [], ◌∷◌, ◌++◌, map, take, None, Some, false, slice_get}
+use Rattle.std.specs.Prelude.{◌≡◌, ℕ, zero, suc, List, [], ◌∷◌, ◌++◌, map, take, None, Some, false}
+use Rattle.std.specs.Prelude.{slice_get}
 use Rattle.std.specs.List.{filter, flat_map}
 use Rattle.held_inputs.specs.declared.line.Line.{Line}
-use Rattle.held_inputs.specs.declared.line.Line.TheVariants.{Leave, KeyDown, KeyRepeat, KeyUp, ButtonDown, ButtonUp}
+use Rattle.held_inputs.specs.declared.line.Line.TheVariants.{Leave, KeyDown, KeyRepeat, KeyUp}
+use Rattle.held_inputs.specs.declared.line.Line.TheVariants.{ButtonDown, ButtonUp}
 use Rattle.held_inputs.specs.Down.{down, is_button_down, names_key, names_button}
 
 -- what one `key rep` of a key adds
@@ -27,9 +29,11 @@ abbrev pub clicks : ℕ → ℕ → List Line
 clicks b zero = []
 clicks b (suc n) = ButtonDown b ∷ ButtonUp b ∷ clicks b n
 
--- the lines that name a key are whole presses of it, and those that name a mouse button whole clicks
+-- the lines that name a key are whole presses of it, and those that name a mouse button whole
+-- clicks
 pub record Balanced (lines : List Line) : Type 0 where
-  pub keys : (b : ℕ) → (presses : List Press) × (filter (names_key b) lines ≡ flat_map (press_lines b) presses)
+  pub keys : (b : ℕ)
+      → (presses : List Press) × (filter (names_key b) lines ≡ flat_map (press_lines b) presses)
   pub buttons : (b : ℕ) → (n : ℕ) × (filter (names_button b) lines ≡ clicks b n)
 
 pub record NothingDown (lines : List Line) : Type 0 where

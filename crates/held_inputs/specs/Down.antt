@@ -1,17 +1,17 @@
 -- What is down after lines were printed, found by looking back over them.
-use Rattle.std.specs.Prelude.{ℕ, ◌+◌, max, List, [], ◌∷◌, ◌++◌, map, Option, None, Some, Bool, true, false, cond, ◌==◌, suc, zero}
+use Rattle.std.specs.Prelude.{ℕ, ◌+◌, max, List, [], ◌∷◌, ◌++◌, map, Option, None, Some, Bool, true}
+use Rattle.std.specs.Prelude.{false, cond, ◌==◌, suc, zero}
+use Rattle.std.specs.Option.{option_or}
 use Rattle.held_inputs.specs.declared.line.Line.{Line}
-use Rattle.held_inputs.specs.declared.line.Line.TheVariants.{KeyDown, KeyRepeat, KeyUp, ButtonDown, ButtonUp, ResetOptions, SetOption, Grab, Clip}
+use Rattle.held_inputs.specs.declared.line.Line.TheVariants.{KeyDown, KeyRepeat, KeyUp, ButtonDown}
+use Rattle.held_inputs.specs.declared.line.Line.TheVariants.{ButtonUp, ResetOptions, SetOption}
+use Rattle.held_inputs.specs.declared.line.Line.TheVariants.{Grab, Clip}
 use Rattle.held_inputs.specs.declared.keys.HeldKey.{HeldKey}
-
-abbrev pub or_else : {X : Type 0} → Option X → Option X → Option X
-or_else None other = other
-or_else (Some x) other = Some x
 
 -- the last element that passes a test
 unfoldable pub last_where : {X : Type 0} → (X → Bool) → List X → Option X
 last_where test [] = None
-last_where test (x ∷ xs) = or_else (last_where test xs) (cond (test x) (Some x) None)
+last_where test (x ∷ xs) = option_or (last_where test xs) (cond (test x) (Some x) None)
 
 -- a line names the key at a button
 abbrev pub names_key : ℕ → Line → Bool
@@ -52,7 +52,9 @@ id_in _ = None
 
 -- a key that is down, with the id of its last `key down`; none where it is up
 unfoldable pub down : List Line → ℕ → Option ℕ
-down lines b = cond (leaves_down (last_where (names_key b) lines)) (id_in (last_where (presses_key b) lines)) None
+down lines b =
+    cond (leaves_down (last_where (names_key b) lines)) (id_in (last_where (presses_key b) lines))
+    None
 
 unfoldable pub is_button_down : List Line → ℕ → Bool
 is_button_down lines b = leaves_down (last_where (names_button b) lines)

@@ -7,17 +7,23 @@ use Rattle.share_base.specs.Clips.{clip_number}
 use Rattle.share_base.specs.Hex.{hex}
 use Rattle.message_codec.specs.Showing.{after_blank}
 use Rattle.held_inputs.specs.declared.line.Line.{Line}
-use Rattle.held_inputs.specs.declared.line.Line.TheVariants.{Enter, Leave, KeyDown, KeyRepeat, KeyUp, ButtonDown, ButtonUp, MoveTo, MoveBy, Wheel, SaverOn, SaverOff, ResetOptions, SetOption, Grab, Clip}
+use Rattle.held_inputs.specs.declared.line.Line.TheVariants.{Enter, Leave, KeyDown, KeyRepeat}
+use Rattle.held_inputs.specs.declared.line.Line.TheVariants.{KeyUp, ButtonDown, ButtonUp, MoveTo}
+use Rattle.held_inputs.specs.declared.line.Line.TheVariants.{MoveBy, Wheel, SaverOn, SaverOff}
+use Rattle.held_inputs.specs.declared.line.Line.TheVariants.{ResetOptions, SetOption, Grab, Clip}
 
 -- the words that a line begins with, then each field after a blank, then a newline
 abbrev pub text : List ℕ → List (List ℕ) → List ℕ
 text words fields = words ++ flat_map after_blank fields ++ 10 ∷ []
 
 abbrev pub line_of : Line → List ℕ
-line_of (Enter x y seq mask) = text (codes "enter") (signed_decimal x ∷ signed_decimal y ∷ decimal seq ∷ decimal mask ∷ [])
+line_of (Enter x y seq mask) =
+    text (codes "enter") (signed_decimal x ∷ signed_decimal y ∷ decimal seq ∷ decimal mask ∷ [])
 line_of Leave = text (codes "leave") []
-line_of (KeyDown id button mask) = text (codes "key down") (decimal id ∷ decimal button ∷ decimal mask ∷ [])
-line_of (KeyRepeat id count button mask) = text (codes "key rep") (decimal id ∷ decimal count ∷ decimal button ∷ decimal mask ∷ [])
+line_of (KeyDown id button mask) =
+    text (codes "key down") (decimal id ∷ decimal button ∷ decimal mask ∷ [])
+line_of (KeyRepeat id count button mask) =
+    text (codes "key rep") (decimal id ∷ decimal count ∷ decimal button ∷ decimal mask ∷ [])
 line_of (KeyUp id button) = text (codes "key up") (decimal id ∷ decimal button ∷ [])
 line_of (ButtonDown b) = text (codes "button down") (decimal b ∷ [])
 line_of (ButtonUp b) = text (codes "button up") (decimal b ∷ [])
@@ -27,7 +33,8 @@ line_of (Wheel dx dy) = text (codes "wheel") (signed_decimal dx ∷ signed_decim
 line_of SaverOn = text (codes "saver on") []
 line_of SaverOff = text (codes "saver off") []
 line_of ResetOptions = text (codes "reset options") []
-line_of (SetOption code value) = text (codes "option") (hex (to_be_bytes w32 code) ∷ decimal value ∷ [])
+line_of (SetOption code value) =
+    text (codes "option") (hex (to_be_bytes w32 code) ∷ decimal value ∷ [])
 line_of (Grab clip) = text (codes "grab") (decimal (clip_number clip) ∷ [])
 line_of (Clip clip bytes) = text (codes "clip") (decimal (clip_number clip) ∷ hex bytes ∷ [])
 

@@ -1,5 +1,6 @@
 -- What a screen prints, call by call.
-use Rattle.std.specs.Prelude.{ℕ, List, [], ◌∷◌, ◌++◌, length, Option, None, Some, Bool, true, false, cond, ◌==◌, ltb}
+use Rattle.std.specs.Prelude.{ℕ, List, [], ◌∷◌, ◌++◌, length, Option, None, Some, Bool, true, false}
+use Rattle.std.specs.Prelude.{cond, ◌==◌, ltb}
 use Rattle.std.specs.Option.{option_map}
 use Rattle.share_base.specs.declared.numbers.KeyId.{KeyId}
 use Rattle.message_codec.specs.declared.messages.Msg.{Msg}
@@ -7,7 +8,9 @@ use Rattle.message_codec.specs.declared.messages.Msg.TheVariants as msg
 use Rattle.modifier_map.specs.Map.{key_under, mask_under, changed, identity}
 use Rattle.modifier_map.specs.declared.map.ModMap.{ModMap}
 use Rattle.held_inputs.specs.declared.line.Line.{Line}
-use Rattle.held_inputs.specs.declared.line.Line.TheVariants.{Enter, Leave, KeyDown, KeyRepeat, KeyUp, ButtonDown, ButtonUp, MoveTo, MoveBy, Wheel, SaverOn, SaverOff}
+use Rattle.held_inputs.specs.declared.line.Line.TheVariants.{Enter, Leave, KeyDown, KeyRepeat}
+use Rattle.held_inputs.specs.declared.line.Line.TheVariants.{KeyUp, ButtonDown, ButtonUp, MoveTo}
+use Rattle.held_inputs.specs.declared.line.Line.TheVariants.{MoveBy, Wheel, SaverOn, SaverOff}
 use Rattle.held_inputs.specs.Down.{down, is_button_down, held_keys, releases}
 
 -- the lines so far, and the map of modifiers that is in force
@@ -52,12 +55,15 @@ lift None button = []
 abbrev pub saver_line : ℕ → Line
 saver_line on = cond (on == 0) SaverOff SaverOn
 
--- the lines of one message; none for those of options and clipboards, whose lines are printed a layer above, and for all others
+-- the lines of one message; none for those of options and clipboards, whose lines are printed a
+-- layer above, and for all others
 abbrev pub applied : Screen → Msg → List Line
 applied s (msg.Enter x y seq mask) = Enter x y seq (meant_mask s.mods mask) ∷ []
 applied s msg.Leave = releases s.lines ++ Leave ∷ []
-applied s (msg.KeyDown id mask button) = press s.lines (down s.lines button) (meant_id s.mods id) button (meant_mask s.mods mask)
-applied s (msg.KeyRepeat id mask count button) = repeat (down s.lines button) count button (meant_mask s.mods mask)
+applied s (msg.KeyDown id mask button) =
+    press s.lines (down s.lines button) (meant_id s.mods id) button (meant_mask s.mods mask)
+applied s (msg.KeyRepeat id mask count button) =
+    repeat (down s.lines button) count button (meant_mask s.mods mask)
 applied s (msg.KeyUp id mask button) = lift (down s.lines button) button
 applied s (msg.ButtonDown b) = cond (is_button_down s.lines b) [] (ButtonDown b ∷ [])
 applied s (msg.ButtonUp b) = cond (is_button_down s.lines b) (ButtonUp b ∷ []) []

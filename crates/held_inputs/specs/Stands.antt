@@ -12,16 +12,20 @@ use Rattle.held_inputs.specs.Down.{held_keys, is_button_down, up_of}
 use Rattle.held_inputs.specs.Table.{places}
 use Rattle.held_inputs.specs.Screen.{Screen, Call, screen, after, lines_of}
 
--- the text by which all that the tables have goes up: the keys by rising button, then the mouse buttons by rising number
+-- the text by which all that the tables have goes up: the keys by rising button, then the mouse
+-- buttons by rising number
 abbrev pub release_text : Held → List ℕ
-release_text h = flat_map line_of (map up_of h.keys) ++ flat_map line_of (map ButtonUp (places h.buttons (length h.buttons)))
+release_text h =
+    flat_map line_of (map up_of h.keys)
+    ++ flat_map line_of (map ButtonUp (places h.buttons (length h.buttons)))
 
 -- no key and no mouse button is in the tables
 pub record AllUp (h : Held) : Type 0 where
   pub keys : h.keys ≡ []
   pub buttons : (b : ℕ) → slice_index_or h.buttons b false ≡ false
 
--- the injector represents a screen: its tables have what is down there, and its map is the one in force
+-- the injector represents a screen: its tables have what is down there, and its map is the one in
+-- force
 pub record Stands (i : Injector) (s : Screen) : Type 0 where
   pub keys : i.held.keys ≡ held_keys s.lines
   pub buttons : (b : ℕ) → slice_index_or i.held.buttons b false ≡ is_button_down s.lines b
@@ -40,7 +44,8 @@ pub record Tells (old new : Injector) (call : Call) (lines : List Line) : Type 0
   pub stands : Follows old new call
   pub gives : (s : Screen) → Stands old s → lines ≡ lines_of s call
 
--- the same, with the lines printed after what was there before; they have one reading, since each is in its ranges
+-- the same, with the lines printed after what was there before; they have one reading, since each
+-- is in its ranges
 pub record Prints (old new : Injector) (call : Call) (before printed : List ℕ) : Type 0 where
   pub stands : Follows old new call
   pub gives : (s : Screen) → Stands old s → printed ≡ before ++ flat_map line_of (lines_of s call)

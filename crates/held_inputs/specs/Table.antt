@@ -1,5 +1,6 @@
 -- A list of keys by rising button, and a table of mouse buttons.
-use Rattle.std.specs.Prelude.{ℕ, zero, suc, List, [], ◌∷◌, ◌++◌, Bool, false, slice_index_or, Option, None, Some, cond, ◌==◌, ltb}
+use Rattle.std.specs.Prelude.{ℕ, zero, suc, List, [], ◌∷◌, ◌++◌, Bool, false, slice_index_or}
+use Rattle.std.specs.Prelude.{Option, None, Some, cond, ◌==◌, ltb}
 use Rattle.held_inputs.specs.declared.keys.HeldKey.{HeldKey}
 
 -- how many keys come before a button
@@ -15,7 +16,8 @@ found (k ∷ ks) b = cond (ltb k.button b) (found ks b) (cond (k.button == b) (S
 -- the keys with one more, in its place
 abbrev pub inserted : List HeldKey → ℕ → ℕ → List HeldKey
 inserted [] b id = record { button = b; id = id } ∷ []
-inserted (k ∷ ks) b id = cond (ltb k.button b) (k ∷ inserted ks b id) (record { button = b; id = id } ∷ k ∷ ks)
+inserted (k ∷ ks) b id =
+    cond (ltb k.button b) (k ∷ inserted ks b id) (record { button = b; id = id } ∷ k ∷ ks)
 
 -- the keys without the one at a button
 abbrev pub removed : List HeldKey → ℕ → List HeldKey

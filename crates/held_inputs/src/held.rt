@@ -1,6 +1,7 @@
 //! What is down: keys with their ids, and buttons of the mouse.
 
-ghost use Rattle.std.specs.Prelude.{◌≡◌, ◌↔◌, ◌≤◌, ◌<◌, ◌+◌, ◌*◌, ◌++◌, [], false, length, map, replicate, slice_index_or, slice_set, IsTrue};
+ghost use Rattle.std.specs.Prelude.{◌≡◌, ◌↔◌, ◌≤◌, ◌<◌, ◌+◌, ◌*◌, ◌++◌, [], false, length, map};
+ghost use Rattle.std.specs.Prelude.{replicate, slice_index_or, slice_set, IsTrue};
 ghost use Rattle.std.specs.List.{flat_map, AllByRecursion};
 ghost use Rattle.held_inputs.specs.Line.{line_of};
 ghost use Rattle.held_inputs.specs.Ranges.{Fits};
@@ -17,7 +18,8 @@ use share_base::Buffer;
 /// The longest lines of a release, in bytes: 512 keys at 19 bytes and 256 mouse buttons at 16.
 pub const LONGEST_RELEASE: usize = 13_824;
 
-/// At most 512 keys and 256 mouse buttons that are down, in tables of fixed size. No method allocates.
+/// At most 512 keys and 256 mouse buttons that are down, in tables of fixed size. No method
+/// allocates.
 #[derive(Drop)]
 pub struct Held {
     keys: HeldKeys,
@@ -95,8 +97,8 @@ impl Held {
         self.keys.as_slice().is_empty()
     }
 
-    /// Releases all that is down: the keys by rising button, then the mouse buttons by rising number.
-    /// Their lines have to fit; `bound` says how long they are.
+    /// Releases all that is down: the keys by rising button, then the mouse buttons by rising
+    /// number. Their lines have to fit; `bound` says how long they are.
     pub fn release<B: Buffer>(&mut self, lines: &mut B)
         requires { length (B.content lines.old) + LONGEST_RELEASE ≤ B.capacity lines.old }
         ensures printed { B.content lines.new ≡ B.content lines.old ++ release_text self.old }

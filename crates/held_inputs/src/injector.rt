@@ -7,7 +7,8 @@ ghost use Rattle.message_codec.specs.declared.messages.Msg.TheVariants as messag
 ghost use Rattle.held_inputs.specs.Line.{line_of, IsShort};
 ghost use Rattle.held_inputs.specs.Ranges.{Fits};
 ghost use Rattle.held_inputs.specs.Balanced.{NothingDown};
-ghost use Rattle.held_inputs.specs.Screen.{Screen, Applies, SetsOption, ResetsOptions, ReleasesAll, meant_id, meant_mask, saver_line};
+ghost use Rattle.held_inputs.specs.Screen.{Screen, Applies, SetsOption, ResetsOptions, ReleasesAll};
+ghost use Rattle.held_inputs.specs.Screen.{meant_id, meant_mask, saver_line};
 ghost use Rattle.held_inputs.specs.Stands.{Stands, StandsFor, Follows, Tells, Prints};
 
 use crate::held::{Held, LONGEST_RELEASE};
@@ -53,9 +54,9 @@ impl Injector {
         self.mods = ModMap::new();
     }
 
-    /// Applies a message and returns its lines, at most `LONGEST_ANSWER` bytes: the releases and then
-    /// `leave`. There are none for messages of options and clipboards, whose lines the caller prints
-    /// and for which it calls `set_option` and `reset_options`.
+    /// Applies a message and returns its lines, at most `LONGEST_ANSWER` bytes: the releases and
+    /// then `leave`. There are none for messages of options and clipboards, whose lines the caller
+    /// prints and for which it calls `set_option` and `reset_options`.
     pub fn apply(&mut self, msg: &Msg) -> Lines
         ensures prints { Prints self.old self.new (Applies msg.now) [] result }
         ensures bound { length result ≤ LONGEST_ANSWER }

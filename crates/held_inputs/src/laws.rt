@@ -1,5 +1,5 @@
-//! Laws over all lists of calls, on which other crates rest. The calls do nothing: their contracts are
-//! the laws.
+//! Laws over all lists of calls, on which other crates rest. The calls do nothing: their contracts
+//! are the laws.
 
 ghost use Rattle.std.specs.Prelude.{◌≡◌, ℕ, List, [], ◌∷◌, ◌++◌};
 ghost use Rattle.std.specs.List.{flat_map, AllByRecursion};
@@ -13,8 +13,8 @@ ghost use Rattle.held_inputs.specs.Down.{IsPlain};
 ghost use Rattle.held_inputs.specs.Stands.{Stands};
 ghost use Rattle.held_inputs.specs.Balanced.{Balanced, NothingDown, ClearAtLeaves};
 
-/// Whatever a screen is told, after its releases every key and every mouse button has gone up, one up
-/// for each down, and nothing was down where it was left.
+/// Whatever a screen is told, after its releases every key and every mouse button has gone up, one
+/// up for each down, and nothing was down where it was left.
 pub fn released()
     ensures balanced { (mods : ModMap) (calls : List Call)
         → Balanced (screen mods (calls ++ ReleasesAll ∷ [])).lines }
@@ -30,8 +30,8 @@ pub fn one_call_more()
         → screen mods (calls ++ c ∷ []) ≡ after (screen mods calls) c }
 {}
 
-/// Lines of options and of clipboards, which a layer above prints between the calls, leave down what
-/// was down.
+/// Lines of options and of clipboards, which a layer above prints between the calls, leave down
+/// what was down.
 pub fn plain_lines()
     ensures { (i : Injector) (s : Screen) (more : List Line)
         → AllByRecursion IsPlain more → Stands i s → Stands i (with_lines s more) }

@@ -2,9 +2,9 @@
 
 use share_base::{ClipId, Octets};
 
-/// A printed line: what is injected into a screen, or what its clipboards are told. `specs/Line.antt`
-/// has the text of each. Ids, buttons and masks are as they are injected, so after the map of
-/// modifiers.
+/// A printed line: what is injected into a screen, or what its clipboards are told.
+/// `specs/Line.antt` has the text of each. Ids, buttons and masks are as they are injected, so
+/// after the map of modifiers.
 #[derive(Debug, Drop)]
 pub enum Line {
     /// The cursor enters the screen.

@@ -13,8 +13,8 @@ use share_base::{Buffer, hex_pair, put_i16, put_u16, put_u32};
 /// The longest line of a message other than an option or a clipboard, in bytes.
 pub const LONGEST_LINE: usize = 37;
 
-/// Appends a line and its newline, which have to fit: `room_of` has the most bytes that each kind of
-/// line takes.
+/// Appends a line and its newline, which have to fit: `room_of` has the most bytes that each kind
+/// of line takes.
 pub fn put_line<B: Buffer>(lines: &mut B, line: Line)
     requires { length (B.content lines.old) + room_of line ≤ B.capacity lines.old }
     ensures printed { B.content lines.new ≡ B.content lines.old ++ line_of line }

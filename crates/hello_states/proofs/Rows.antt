@@ -5,7 +5,8 @@ use Rattle.share_base.specs.declared.reason.Reason.TheVariants as reason
 use Rattle.hello_states.specs.declared.part_cause.PartCause.TheVariants as cause
 use Rattle.hello_states.specs.Causes.{cause_text}
 use Rattle.hello_states.specs.Phases.{Joined, Parting, is_silent, closing_time}
-use Rattle.hello_states.specs.Handshake.{Refused, Admitted, hello_answer, greeting_at, shape_of_info, asked_after_info}
+use Rattle.hello_states.specs.Handshake.{Refused, Admitted, hello_answer, greeting_at}
+use Rattle.hello_states.specs.Handshake.{shape_of_info, asked_after_info}
 
 -- screen 1 is used, and no other
 abbrev second : ℕ → Bool
@@ -31,14 +32,23 @@ free : hello_answer 1 6 (Some 0) second ≡ Admitted 0
 free = refl
 
 -- a screen of 1024 x 768 joins at 70, with a keep-alive of 3000
-joins : asked_after_info (shape_of_info (pos 0) (pos 0) 1024 768) 70 (record { screen = 1; accepted = 40; rate = 3000 })
-    ≡ Joined (record { screen = 1; shape = record { x = pos 0; y = pos 0; w = pos 1024; h = pos 768 }; alive = record { sent = 70; heard = 70; rate = 3000 } })
+joins : asked_after_info (shape_of_info (pos 0) (pos 0) 1024 768) 70
+    (record { screen = 1; accepted = 40; rate = 3000 })
+    ≡ Joined
+    (record {
+      screen = 1;
+      shape = record { x = pos 0; y = pos 0; w = pos 1024; h = pos 768 };
+      alive = record { sent = 70; heard = 70; rate = 3000 };
+    })
 joins = refl
 
-no_width : asked_after_info (shape_of_info (pos 0) (pos 0) 0 768) 70 (record { screen = 1; accepted = 40; rate = 3000 }) ≡ Parting cause.Size 70
+no_width : asked_after_info (shape_of_info (pos 0) (pos 0) 0 768) 70
+    (record { screen = 1; accepted = 40; rate = 3000 })
+    ≡ Parting cause.Size 70
 no_width = refl
 
-last_column : shape_of_info (pos 1) (negsuc 32767) 32767 32767 ≡ Some (record { x = pos 1; y = negsuc 32767; w = pos 32767; h = pos 32767 })
+last_column : shape_of_info (pos 1) (negsuc 32767) 32767 32767
+    ≡ Some (record { x = pos 1; y = negsuc 32767; w = pos 32767; h = pos 32767 })
 last_column = refl
 
 past_last_column : shape_of_info (pos 2) (pos 0) 32767 1 ≡ None

@@ -1,4 +1,5 @@
--- The answer to the greeting under a configuration, and the phase that an answered connection is in.
+-- The answer to the greeting under a configuration, and the phase that an answered connection is
+-- in.
 use Rattle.std.specs.Prelude.{ℕ, List, Result, Ok, Err}
 use Rattle.share_base.specs.declared.numbers.ScreenNo.{ScreenNo}
 use Rattle.share_base.specs.Screens.{has}
@@ -13,7 +14,8 @@ use Rattle.hello_states.specs.TypedPhases.{asked_phase, parting_phase}
 
 -- where those screens are used
 abbrev pub answer_under : Configuration → ℕ → ℕ → ℕ → List ℕ → HelloAnswer
-answer_under config used major minor name = hello_answer major minor (screen_of config name) (has used)
+answer_under config used major minor name =
+    hello_answer major minor (screen_of config name) (has used)
 
 -- the rate of a keep-alive
 abbrev pub rate_under : Configuration → ℕ

@@ -1,4 +1,5 @@
--- How far a connection has come, and what each phase keeps. Moments are in milliseconds; a screen is its number.
+-- How far a connection has come, and what each phase keeps. Moments are in milliseconds; a screen
+-- is its number.
 use Rattle.std.specs.Prelude.{ℕ, ◌+◌, Bool, true, false, nat_le, Option, Some, None}
 use Rattle.share_base.specs.declared.shape.Shape.{Shape}
 use Rattle.keepalive_clock.specs.declared.alive.Alive.{Alive}
@@ -6,7 +7,8 @@ use Rattle.keepalive_clock.specs.KeepAlive as keep_alive
 use Rattle.hello_states.specs.declared.deadlines.TheConstants.{HANDSHAKE_TIME, CLOSING_TIME}
 use Rattle.hello_states.specs.declared.part_cause.PartCause.{PartCause}
 
--- a screen that was asked for its information, and when it was accepted; its keep-alive will have that rate
+-- a screen that was asked for its information, and when it was accepted; its keep-alive will have
+-- that rate
 pub record AskedScreen : Type 0 where
   pub screen : ℕ
   pub accepted : ℕ
@@ -79,9 +81,11 @@ is_beat_due_in (Joined joined) now = keep_alive.is_beat_due joined.alive now
 is_beat_due_in _ now = false
 
 abbrev pub after_beat_in : Phase → ℕ → Phase
-after_beat_in (Joined joined) now = Joined (record joined { alive = keep_alive.after_beat joined.alive now })
+after_beat_in (Joined joined) now =
+    Joined (record joined { alive = keep_alive.after_beat joined.alive now })
 after_beat_in phase now = phase
 
 abbrev pub after_hearing_in : Phase → ℕ → Phase
-after_hearing_in (Joined joined) now = Joined (record joined { alive = keep_alive.after_hearing joined.alive now })
+after_hearing_in (Joined joined) now =
+    Joined (record joined { alive = keep_alive.after_hearing joined.alive now })
 after_hearing_in phase now = phase

@@ -1,7 +1,8 @@
 -- What a connection keeps in each phase, with its serial, and the phase that this is.
 use Rattle.std.specs.Prelude.{ℕ}
 use Rattle.hello_states.specs.declared.part_cause.PartCause.{PartCause}
-use Rattle.hello_states.specs.Phases.{Phase, Greeting, Asked, Joined, Parting, AskedScreen, JoinedScreen}
+use Rattle.hello_states.specs.Phases.{Phase, Greeting, Asked, Joined, Parting, AskedScreen}
+use Rattle.hello_states.specs.Phases.{JoinedScreen}
 
 pub record GreetingParts : Type 0 where
   pub serial : ℕ

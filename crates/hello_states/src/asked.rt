@@ -16,8 +16,8 @@ use keepalive_clock::Alive;
 use share_base::{ScreenNo, moment_of};
 use std::marker::Model;
 
-/// A connection that was admitted as a screen and was asked for the screen's information. It keeps the
-/// rate that its keep-alive will have.
+/// A connection that was admitted as a screen and was asked for the screen's information. It keeps
+/// the rate that its keep-alive will have.
 #[derive(Debug, Drop)]
 pub struct Asked {
     serial: u64,

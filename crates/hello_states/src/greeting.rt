@@ -6,7 +6,8 @@ ghost use Rattle.share_base.specs.Moments.{last_moment};
 ghost use Rattle.share_base.specs.declared.screen_set.TheConstants.{MOST_SCREENS};
 ghost use Rattle.hello_states.specs.TypedPhases.{greeting_phase, parting_phase};
 ghost use Rattle.hello_states.specs.Handshake.{greeting_at, parting_for, after_hello};
-ghost use Rattle.hello_states.specs.Answers.{answer_under, rate_under, answer_of, phase_answered, serial_answered};
+ghost use Rattle.hello_states.specs.Answers.{answer_under, rate_under, answer_of, phase_answered};
+ghost use Rattle.hello_states.specs.Answers.{serial_answered};
 
 use crate::asked::Asked;
 use crate::part_cause::PartCause;
@@ -45,8 +46,8 @@ impl Model for Greeting {
 }
 
 impl Greeting {
-    /// Makes the connection of that serial, accepted at that moment, in milliseconds. A moment above
-    /// `LAST_MOMENT` counts as that one, here and in every call.
+    /// Makes the connection of that serial, accepted at that moment, in milliseconds. A moment
+    /// above `LAST_MOMENT` counts as that one, here and in every call.
     pub fn begin(serial: u64, now: u64) -> Greeting
         ensures phase { greeting_phase result ≡ greeting_at now }
         ensures serial { result.serial ≡ serial }
@@ -57,11 +58,11 @@ impl Greeting {
         }
     }
 
-    /// Takes the answer to the greeting. The connection is refused, in this order, for a version that
-    /// isn't admitted, for a name that no screen and no alias has, and for a screen that is used: one of
-    /// `used`, which holds the primary and the screens of all other connections that were asked or are
-    /// joined. Else it is asked as that screen, and keeps the rate of the configuration for its
-    /// keep-alive.
+    /// Takes the answer to the greeting. The connection is refused, in this order, for a version
+    /// that isn't admitted, for a name that no screen and no alias has, and for a screen that is
+    /// used: one of `used`, which holds the primary and the screens of all other connections that
+    /// were asked or are joined. Else it is asked as that screen, and keeps the rate of the
+    /// configuration for its keep-alive.
     pub fn answer(
         self,
         major: u16,

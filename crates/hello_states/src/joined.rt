@@ -59,8 +59,8 @@ impl Joined {
         }
     }
 
-    /// Takes a further information of the screen, which counts as heard. The connection has that shape
-    /// from now on; or it parts, for a shape that no screen has.
+    /// Takes a further information of the screen, which counts as heard. The connection has that
+    /// shape from now on; or it parts, for a shape that no screen has.
     pub fn info(self, info: &InfoFields, now: u64) -> Informed
         ensures phase { phase_informed result
             ≡ joined_after_info (shape_in info.now) now self.joined }

@@ -1,11 +1,12 @@
 //! The handshake of one connection as a server sees it, phase by phase, each a type of its own: a
-//! `Greeting` that is to answer, an `Asked` screen that is to tell its shape, a `Joined` screen, and a
-//! `Parting`, which takes no input. A call that leads on moves the value, so a call in the wrong phase
-//! doesn't compile.
+//! `Greeting` that is to answer, an `Asked` screen that is to tell its shape, a `Joined` screen,
+//! and a `Parting`, which takes no input. A call that leads on moves the value, so a call in the
+//! wrong phase doesn't compile.
 //!
-//! It owns the phases (`specs/Phases.antt`), the causes of parting (`specs/Causes.antt`) and what an
-//! answer to the greeting and a screen's information come to (`specs/Handshake.antt`). It may know no
-//! stream, no queue and no other connection: the caller says which screens are used. No call allocates.
+//! It owns the phases (`specs/Phases.antt`), the causes of parting (`specs/Causes.antt`) and what
+//! an answer to the greeting and a screen's information come to (`specs/Handshake.antt`). It may
+//! know no stream, no queue and no other connection: the caller says which screens are used. No
+//! call allocates.
 #![tactic(auto)]
 
 mod asked;

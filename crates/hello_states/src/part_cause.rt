@@ -7,11 +7,12 @@ use crate::version::{PROTOCOL_MAJOR, PROTOCOL_MINOR};
 use message_codec::Msg;
 use share_base::{Buffer, Reason, put_u64};
 
-/// The length of the longest text of a cause: `bad`, a number of 20 digits and `trailing`, between blanks.
+/// The length of the longest text of a cause: `bad`, a number of 20 digits and `trailing`, between
+/// blanks.
 pub const CAUSE_LENGTH: usize = 33;
 
-/// Why a connection parts. After the first six causes what is queued is still written, after the others
-/// it is dropped.
+/// Why a connection parts. After the first six causes what is queued is still written, after the
+/// others it is dropped.
 #[derive(Clone, Copy, Debug, PartialEq, Eq)]
 pub enum PartCause {
     /// The server says goodbye.
@@ -61,8 +62,8 @@ impl PartCause {
         )
     }
 
-    /// Appends the cause as the log prints it: its word, and for a bad frame the place and the reason of
-    /// the frame. These are at most `CAUSE_LENGTH` bytes, which have to fit.
+    /// Appends the cause as the log prints it: its word, and for a bad frame the place and the
+    /// reason of the frame. These are at most `CAUSE_LENGTH` bytes, which have to fit.
     pub fn put_text<B: Buffer>(self, out: &mut B)
         requires { length (B.content out.old) + CAUSE_LENGTH ≤ B.capacity out.old }
         ensures printed { B.content out.new ≡ B.content out.old ++ spec.cause_text self }

@@ -9,8 +9,8 @@ use crate::part_cause::PartCause;
 use share_base::moment_of;
 use std::marker::Model;
 
-/// A connection that parts. It takes no input: it has no call for a message, nor for anything else that
-/// comes from the peer.
+/// A connection that parts. It takes no input: it has no call for a message, nor for anything else
+/// that comes from the peer.
 #[derive(Debug, Drop)]
 pub struct Parting {
     serial: u64,

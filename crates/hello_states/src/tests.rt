@@ -44,8 +44,8 @@ fn asked_pad(alloc: Global) -> Result<Asked, Fail> {
     }
 }
 
-/// A version, a name, and why they are refused where desk is used; no cause where they are admitted as
-/// pad.
+/// A version, a name, and why they are refused where desk is used; no cause where they are admitted
+/// as pad.
 #[derive(Clone, Copy)]
 struct Hello(u16, u16, &'static [u8], Option<PartCause>);
 
@@ -149,8 +149,8 @@ fn joined_pad(alloc: Global, info: &InfoFields, now: u64) -> Result<Joined, Fail
     }
 }
 
-/// The keep-alive of a screen that joined at 0: it is dead at 9,000 and not at 8,999, unless a further
-/// information was heard.
+/// The keep-alive of a screen that joined at 0: it is dead at 9,000 and not at 8,999, unless a
+/// further information was heard.
 #[test]
 fn a_joined_screen_has_its_keep_alive(rt: HostRuntime) -> Result<(), Fail> {
     let mut info = InfoFields {

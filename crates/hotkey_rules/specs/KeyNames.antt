@@ -1,5 +1,7 @@
--- The table of named keys: one line a row, by rising id. Names are the same in capital and small letters.
-use Rattle.std.specs.Prelude.{◌≡◌, ◌≢◌, ℕ, true, false, ◌==◌, List, [], ◌∷◌, Contains, Option, codes}
+-- The table of named keys: one line a row, by rising id. Names are the same in capital and small
+-- letters.
+use Rattle.std.specs.Prelude.{◌≡◌, ◌≢◌, ℕ, true, false, ◌==◌, List, [], ◌∷◌, Contains, Option}
+use Rattle.std.specs.Prelude.{codes}
 use Rattle.std.specs.List.{find}
 use Rattle.std.specs.Option.{option_map}
 use Rattle.share_base.specs.declared.numbers.KeyId.{KeyId}

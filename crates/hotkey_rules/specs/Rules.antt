@@ -1,5 +1,6 @@
 -- What adding a rule answers, and the lists of a rule.
-use Rattle.std.specs.Prelude.{◌≡◌, ℕ, ◌<◌, List, [], ◌∷◌, ◌++◌, length, slice_get, Option, Result, Ok, Err}
+use Rattle.std.specs.Prelude.{◌≡◌, ℕ, ◌<◌, List, [], ◌∷◌, ◌++◌, length, slice_get, Option, Result}
+use Rattle.std.specs.Prelude.{Ok, Err}
 use Rattle.std.specs.Option.{option_map}
 use Rattle.share_base.specs.declared.numbers.RuleNo.{RuleNo}
 use Rattle.hotkey_rules.specs.declared.action.Action.{Action}

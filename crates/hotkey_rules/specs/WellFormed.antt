@@ -1,5 +1,5 @@
--- Which triggers and actions there are: keys from 1 to 65,535, mouse buttons from 1 to 255, and the modifiers of the
--- five classes. Which screens there are is left to others.
+-- Which triggers and actions there are: keys from 1 to 65,535, mouse buttons from 1 to 255, and the
+-- modifiers of the five classes. Which screens there are is left to others.
 use Rattle.std.specs.Prelude.{Bool, true, not, ◌==◌, ◌&&◌, nat_lt}
 use Rattle.share_base.specs.declared.numbers.KeyId.{KeyId}
 use Rattle.share_base.specs.declared.numbers.Mask.{Mask}

@@ -22,7 +22,8 @@ pub enum Action {
         id: KeyId,
         /// The modifiers that it is sent with.
         mods: Mask,
-        /// The button that stands for the key, 0xF000 and the key's number among the keys of actions.
+        /// The button that stands for the key, 0xF000 and the key's number among the keys of
+        /// actions.
         button: Button,
     },
     /// A key goes down, and stays down.
@@ -31,7 +32,8 @@ pub enum Action {
         id: KeyId,
         /// The modifiers that it is sent with.
         mods: Mask,
-        /// The button that stands for the key, 0xF000 and the key's number among the keys of actions.
+        /// The button that stands for the key, 0xF000 and the key's number among the keys of
+        /// actions.
         button: Button,
     },
     /// A key that is down goes up.
@@ -40,7 +42,8 @@ pub enum Action {
         id: KeyId,
         /// The modifiers that it is sent with.
         mods: Mask,
-        /// The button that stands for the key, 0xF000 and the key's number among the keys of actions.
+        /// The button that stands for the key, 0xF000 and the key's number among the keys of
+        /// actions.
         button: Button,
     },
     /// A button of the mouse goes down and up.

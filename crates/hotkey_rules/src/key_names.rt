@@ -103,8 +103,7 @@ fn named_keys() -> [NamedKey; 35]
     ]
 }
 
-/// The key of that name, in capital or small letters. `None` comes exactly where no row has it. It takes
-/// no memory.
+/// The key of that name, in capital or small letters. `None` if no row has it. It takes no memory.
 #[tactic(auto, unfolding(crate::specs::KeyNames::key_of_name))]
 pub fn key_of_name(name: &[u8]) -> Option<KeyId>
     ensures { result ≡ spec.key_of_name name.now }
@@ -114,8 +113,7 @@ pub fn key_of_name(name: &[u8]) -> Option<KeyId>
     Some(key.id())
 }
 
-/// The name of that key, as the table spells it. `None` comes exactly where no row has the key. It takes
-/// no memory.
+/// The name of that key, as the table spells it. `None` if no row has the key. It takes no memory.
 #[tactic(auto, unfolding(crate::specs::KeyNames::name_of_key))]
 pub fn name_of_key(id: KeyId) -> Option<&'static str>
     ensures { option_copied result ≡ spec.name_of_key id }

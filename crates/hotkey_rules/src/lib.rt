@@ -2,8 +2,8 @@
 //!
 //! It owns actions and lists of them, triggers and the rule that one of them finds
 //! (`specs/Triggers.antt`), the list of rules (`specs/Rules.antt`) and the table of named keys
-//! (`specs/KeyNames.antt`). It may know keys by their numbers and names, and screens and sides by their
-//! numbers and words: no text of a configuration, and no machine that carries an action out.
+//! (`specs/KeyNames.antt`). It may know keys by their numbers and names, and screens and sides by
+//! their numbers and words: no text of a configuration, and no machine that carries an action out.
 #![tactic(auto)]
 
 mod action;

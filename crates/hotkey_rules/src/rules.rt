@@ -23,8 +23,8 @@ pub enum RulesFault {
     OutOfMemory,
 }
 
-/// Rules of hotkeys, at most 256, each with a number: its place in the order in which they were added,
-/// from 0. Contracts see them as a list. Of rules with one trigger the first counts.
+/// Rules of hotkeys, at most 256, each with a number: its place in the order in which they were
+/// added, from 0. Contracts see them as a list. Of rules with one trigger the first counts.
 #[derive(Debug, Drop)]
 pub struct Rules {
     rules: Vec<Rule>,
@@ -52,7 +52,8 @@ impl Rules {
         }
     }
 
-    /// Adds a rule after the others. After a fault the rules are unchanged, and the lists are let go.
+    /// Adds a rule after the others. After a fault the rules are unchanged, and the lists are let
+    /// go.
     pub fn add(
         &mut self,
         trigger: Trigger,
@@ -75,8 +76,8 @@ impl Rules {
         }
     }
 
-    /// The number of the first rule whose trigger is that key with exactly those modifiers. `None` comes
-    /// exactly where there is none. It takes no memory.
+    /// The number of the first rule whose trigger is that key with exactly those modifiers. `None`
+    /// if there is none. It takes no memory.
     pub fn find_key(&self, id: KeyId, mods: Mask) -> Option<RuleNo>
         ensures finds { result ≡ rule_for self.now (Trigger.Key id mods) }
         ensures held { IfSome result (λ rule. rule.0 < length self.now) }
@@ -85,7 +86,7 @@ impl Rules {
     }
 
     /// The number of the first rule whose trigger is that button of the mouse with exactly those
-    /// modifiers. `None` comes exactly where there is none. It takes no memory.
+    /// modifiers. `None` if there is none. It takes no memory.
     pub fn find_button(&self, b: MouseButton, mods: Mask) -> Option<RuleNo>
         ensures finds { result ≡ rule_for self.now (Trigger.Mouse b mods) }
         ensures held { IfSome result (λ rule. rule.0 < length self.now) }

@@ -2,8 +2,8 @@
 
 use share_base::{KeyId, Mask, MouseButton};
 
-/// What sets a hotkey off: a key or a button of the mouse goes down while exactly these modifiers are
-/// held, toggles left aside.
+/// What sets a hotkey off: a key or a button of the mouse goes down while exactly these modifiers
+/// are held, toggles left aside.
 #[derive(Clone, Copy, Debug, PartialEq, Eq)]
 pub enum Trigger {
     /// A key.

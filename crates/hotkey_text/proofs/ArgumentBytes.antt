@@ -1,5 +1,6 @@
 -- The bytes of printed arguments.
-use Rattle.std.proofs.Common.{◌≡◌, ℕ, ◌+◌, ◌/◌, ◌%◌, ◌^◌, ◌<◌, Bool, true, not, ◌&&◌, ◌||◌, ◌==◌, List, [], ◌∷◌, ◌++◌, Some, refl, ap, sym, ◌∙◌, arith}
+use Rattle.std.proofs.Common.{◌≡◌, ℕ, ◌+◌, ◌/◌, ◌%◌, ◌^◌, ◌<◌, Bool, true, not, ◌&&◌, ◌||◌, ◌==◌}
+use Rattle.std.proofs.Common.{List, [], ◌∷◌, ◌++◌, Some, refl, ap, sym, ◌∙◌, arith}
 use Rattle.std.specs.List.{list_all, flat_map}
 use Rattle.std.specs.Fmt.{decimal}
 use Rattle.std.proofs.lemmas.Bool.{agree_below, agree_below_at, and_parts, cond_both}
@@ -17,16 +18,18 @@ use Rattle.hotkey_rules.proofs.KeyRows.{has_name}
 use Rattle.hotkey_text.specs.Keys.{is_plain}
 use Rattle.hotkey_text.specs.Chords.{class_word, has_class}
 use Rattle.hotkey_text.specs.Printed.{digit_text, coded_text, key_text, mod_text}
-use Rattle.hotkey_text.specs.Again.{is_argument_byte}
+use Rattle.hotkey_text.specs.RoundTrip.{is_argument_byte}
 use Rattle.hotkey_text.proofs.KeysAgain.{key_text_by}
 use Rattle.hotkey_text.proofs.WordsFound.{listed_passes, each_class}
 
 -- ---- tests of bytes
 
 -- what each byte below 127 that passes one test passes, too
-pub each_byte : (p q : ℕ → Bool) → ((b : ℕ) → p b ≡ true → b < 127) → agree_below (λ b. not (p b) || q b) (λ b. true) 127 ≡ true → (b : ℕ) → p b ≡ true → q b ≡ true
+pub each_byte : (p q : ℕ → Bool) → ((b : ℕ) → p b ≡ true → b < 127)
+    → agree_below (λ b. not (p b) || q b) (λ b. true) 127 ≡ true → (b : ℕ) → p b ≡ true → q b ≡ true
 each_byte p q below table b h =
-    let either : (not (p b) || q b) ≡ true = agree_below_at (λ b. not (p b) || q b) (λ b. true) 127 b table (below b h) in
+    let either : (not (p b) || q b) ≡ true =
+    agree_below_at (λ b. not (p b) || q b) (λ b. true) 127 b table (below b h) in
     sym (ap (λ (t : Bool). not t || q b) h) ∙ either
 
 argument_below : (b : ℕ) → is_argument_byte b ≡ true → b < 127
@@ -59,9 +62,12 @@ chord_taken = each_byte is_chord_byte (takes kind.Chord) chord_below refl
 
 -- ---- a printed key
 
-name_chord : (id : KeyId) (name : List ℕ) → name_of_key id ≡ Some name → list_all is_chord_byte name ≡ true
+name_chord : (id : KeyId) (name : List ℕ) → name_of_key id ≡ Some name
+    → list_all is_chord_byte name ≡ true
 unfolding named_keys
-name_chord id name e = listed_passes (λ (k : NamedKey). list_all is_chord_byte k.name) named_keys (row name id.0) refl (has_name id name e)
+name_chord id name e =
+    listed_passes (λ (k : NamedKey). list_all is_chord_byte k.name) named_keys (row name id.0) refl
+    (has_name id name e)
 
 pub plain_below : (b : ℕ) → is_plain b ≡ true → b < 127
 plain_below b h = grind (arith, nat_tests)
@@ -73,29 +79,44 @@ digit_chord : (d : ℕ) → d < 16 → is_chord_byte (digit_text d) ≡ true
 digit_chord d h = agree_below_at (λ d. is_chord_byte (digit_text d)) (λ d. true) 16 d refl h
 
 coded_chord : (n : ℕ) → n < 65536 → list_all is_chord_byte (coded_text n) ≡ true
-coded_chord n h = rw (digit_chord (n / 4096) (omega arith), digit_chord (n / 256 % 16) (omega arith), digit_chord (n / 16 % 16) (omega arith), digit_chord (n % 16) (omega arith)) refl
+coded_chord n h =
+    rw (
+      digit_chord (n / 4096) (omega arith),
+      digit_chord (n / 256 % 16) (omega arith),
+      digit_chord (n / 16 % 16) (omega arith),
+      digit_chord (n % 16) (omega arith),
+    )
+    refl
 
 pub key_chord : (id : KeyId) → id.0 < 65536 → list_all is_chord_byte (key_text id) ≡ true
-key_chord id h = key_text_by (λ t. list_all is_chord_byte t ≡ true) id (name_chord id) (λ p. rw (plain_chord id.0 p) refl) (coded_chord id.0 h)
+key_chord id h =
+    key_text_by (λ t. list_all is_chord_byte t ≡ true) id (name_chord id)
+    (λ p. rw (plain_chord id.0 p) refl) (coded_chord id.0 h)
 
 -- ---- a printed number
 
 pub number_bytes : (n : ℕ) → n < 2 ^ 64 → list_all is_chord_byte (decimal n) ≡ true
-number_bytes n h = all_digits is_chord_byte (λ d k. agree_below_at (λ d. is_chord_byte (48 + d)) (λ d. true) 10 d refl k) n h
+number_bytes n h =
+    all_digits is_chord_byte
+    (λ d k. agree_below_at (λ d. is_chord_byte (48 + d)) (λ d. true) 10 d refl k) n h
 
 -- ---- printed modifiers
 
 class_bytes : (c : ModClass) → list_all is_argument_byte (class_word c ++ 43 ∷ []) ≡ true
 class_bytes = each_class (λ c. list_all is_argument_byte (class_word c ++ 43 ∷ [])) refl
 
-pub mods_bytes : (mods : Mask) (cs : List ModClass) → list_all is_argument_byte (flat_map (mod_text mods) cs) ≡ true
+pub mods_bytes : (mods : Mask) (cs : List ModClass)
+    → list_all is_argument_byte (flat_map (mod_text mods) cs) ≡ true
 unfolding mod_text
 mods_bytes mods [] = refl
 mods_bytes mods (c ∷ cs) =
     all_append is_argument_byte (mod_text mods c) (flat_map (mod_text mods) cs)
-    (cond_both (has_class mods c) (class_word c ++ 43 ∷ []) [] (λ t. list_all is_argument_byte t ≡ true) (λ h. class_bytes c) (λ h. refl)) (mods_bytes mods cs)
+    (cond_both (has_class mods c) (class_word c ++ 43 ∷ []) []
+    (λ t. list_all is_argument_byte t ≡ true) (λ h. class_bytes c) (λ h. refl))
+    (mods_bytes mods cs)
 
 -- no blank stands in front of it
 pub argument_tight : (xs : List ℕ) → list_all is_argument_byte xs ≡ true → is_tight xs ≡ true
 argument_tight [] h = refl
-argument_tight (b ∷ bs) h = argument_solid b (and_parts (is_argument_byte b) (list_all is_argument_byte bs) h).0
+argument_tight (b ∷ bs) h =
+    argument_solid b (and_parts (is_argument_byte b) (list_all is_argument_byte bs) h).0

@@ -1,9 +1,11 @@
 -- A mask with one class more, and the classes that a mask doesn't have.
-use Rattle.std.proofs.Common.{◌≡◌, ◌≢◌, ℕ, suc, ◌+◌, ◌<◌, Bool, true, false, not, ◌||◌, ◌==◌, List, [], ◌∷◌, refl, ap, sym, ◌∙◌}
+use Rattle.std.proofs.Common.{◌≡◌, ◌≢◌, ℕ, suc, ◌+◌, ◌<◌, Bool, true, false, not, ◌||◌, ◌==◌, List}
+use Rattle.std.proofs.Common.{[], ◌∷◌, refl, ap, sym, ◌∙◌}
 use Rattle.std.specs.Prelude.{bit_and, bit_or, nat_lt}
 use Rattle.std.specs.List.{list_all}
 use Rattle.std.proofs.lemmas.Nat.{or_lt, and_or_apart}
-use Rattle.std.proofs.lemmas.Bool.{agree_below, agree_below_at, both_ways, eqb-true, ltb-true, not-true}
+use Rattle.std.proofs.lemmas.Bool.{agree_below, agree_below_at, both_ways, eqb-true, ltb-true}
+use Rattle.std.proofs.lemmas.Bool.{not-true}
 use Rattle.share_base.specs.declared.numbers.Mask.{Mask}
 use Rattle.modifier_map.specs.declared.class.ModClass.{ModClass}
 use Rattle.modifier_map.specs.declared.class.ModClass.TheVariants as class
@@ -45,8 +47,12 @@ abbrev is_kept : ModClass → ℕ → Bool
 is_kept c m = has_class (grown (mask m) c) c
 
 -- what a table of all classes and masks passes
-each_pair : (p : ModClass → ℕ → Bool) → agree_below (λ m. list_all (λ c. p c m) all_classes) (λ m. true) 32 ≡ true → (c : ModClass) (m : ℕ) → m < 32 → p c m ≡ true
-each_pair p table c m h = each_class (λ c. p c m) (agree_below_at (λ m. list_all (λ c. p c m) all_classes) (λ m. true) 32 m table h) c
+each_pair : (p : ModClass → ℕ → Bool)
+    → agree_below (λ m. list_all (λ c. p c m) all_classes) (λ m. true) 32 ≡ true
+    → (c : ModClass) (m : ℕ) → m < 32 → p c m ≡ true
+each_pair p table c m h =
+    each_class (λ c. p c m)
+    (agree_below_at (λ m. list_all (λ c. p c m) all_classes) (λ m. true) 32 m table h) c
 
 -- of two tests the second passes, where the first doesn't
 second : (t u : Bool) → t ≡ false → (t || u) ≡ true → u ≡ true
@@ -54,11 +60,14 @@ second true u e h = absurd cc
 second false u e h = h
 
 -- a new class adds its bit, and leaves one free class less
-pub new_adds : (m : Mask) (c : ModClass) → m.0 < 32 → has_class m c ≡ false → (grown m c).0 ≡ m.0 + (row c).bit
+pub new_adds : (m : Mask) (c : ModClass) → m.0 < 32 → has_class m c ≡ false
+    → (grown m c).0 ≡ m.0 + (row c).bit
 new_adds m c h new = eqb-true _ _ (second (has_class m c) _ new (each_pair adds refl c m.0 h))
 
-pub new_takes_one : (m : Mask) (c : ModClass) → m.0 < 32 → has_class m c ≡ false → free m ≡ suc (free (grown m c))
-new_takes_one m c h new = eqb-true _ _ (second (has_class m c) _ new (each_pair takes_one refl c m.0 h))
+pub new_takes_one : (m : Mask) (c : ModClass) → m.0 < 32 → has_class m c ≡ false
+    → free m ≡ suc (free (grown m c))
+new_takes_one m c h new =
+    eqb-true _ _ (second (has_class m c) _ new (each_pair takes_one refl c m.0 h))
 
 pub new_there : (m : Mask) (c : ModClass) → m.0 < 32 → has_class (grown m c) c ≡ true
 new_there m c h = each_pair is_kept refl c m.0 h
@@ -77,7 +86,8 @@ bits_apart class.Super class.Super h = absurd (h refl)
 bits_apart class.Super d h = refl
 
 pub others_stay : (m : Mask) (c d : ModClass) → c ≢ d → has_class (grown m c) d ≡ has_class m d
-others_stay m c d h = ap (λ (b : ℕ). not (b == 0)) (and_or_apart (row d).bit m.0 (row c).bit (bits_apart c d h))
+others_stay m c d h =
+    ap (λ (b : ℕ). not (b == 0)) (and_or_apart (row d).bit m.0 (row c).bit (bits_apart c d h))
 
 -- ---- classes that a mask doesn't have
 
@@ -85,16 +95,22 @@ abbrev pub AreNew : Mask → List ModClass → Type 0
 AreNew m [] = Unit {0}
 AreNew m (c ∷ cs) = (has_class m c ≡ false) × AreNew m cs
 
-pub new_before : (m : Mask) (c : ModClass) (cs : List ModClass) → m.0 < 32 → AreNew (grown m c) cs → IsNone c cs × AreNew m cs
+pub new_before : (m : Mask) (c : ModClass) (cs : List ModClass) → m.0 < 32 → AreNew (grown m c) cs
+    → IsNone c cs × AreNew m cs
 new_before m c [] h new = (tt, tt)
 new_before m c (d ∷ cs) h new =
     let others = new_before m c cs h new.1 in
-    let apart : c ≢ d = λ e. both_ways _ new.0 (ap (λ (x : ModClass). has_class (grown m c) x) (sym e) ∙ new_there m c h) in
+    let apart : c ≢ d =
+    λ e.
+    both_ways _ new.0
+    (ap (λ (x : ModClass). has_class (grown m c) x) (sym e) ∙ new_there m c h) in
     ((apart, others.0), (sym (others_stay m c d apart) ∙ new.0, others.1))
 
-pub new_behind : (m : Mask) (c : ModClass) (cs : List ModClass) → IsNone c cs → AreNew m cs → AreNew (grown m c) cs
+pub new_behind : (m : Mask) (c : ModClass) (cs : List ModClass) → IsNone c cs → AreNew m cs
+    → AreNew (grown m c) cs
 new_behind m c [] apart new = tt
-new_behind m c (d ∷ cs) apart new = (others_stay m c d apart.0 ∙ new.0, new_behind m c cs apart.1 new.1)
+new_behind m c (d ∷ cs) apart new =
+    (others_stay m c d apart.0 ∙ new.0, new_behind m c cs apart.1 new.1)
 
 -- each class is new where there is none
 pub none_there : (c : ModClass) → has_class (mask 0) c ≡ false

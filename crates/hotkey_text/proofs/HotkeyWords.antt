@@ -1,5 +1,6 @@
 -- A line is taken for a hotkey's exactly where it begins with one of the two words and a (.
-use Rattle.std.proofs.Common.{◌≡◌, ℕ, true, ◌&&◌, List, [], ◌∷◌, ◌++◌, Option, Some, None, refl, ap, sym, ◌∙◌, arith}
+use Rattle.std.proofs.Common.{◌≡◌, ℕ, true, ◌&&◌, List, [], ◌∷◌, ◌++◌, Option, Some, None, refl, ap}
+use Rattle.std.proofs.Common.{sym, ◌∙◌, arith}
 use Rattle.std.specs.Prelude.{is_some}
 use Rattle.std.specs.Str.{bytes_eq}
 use Rattle.std.proofs.lemmas.Bool.{and_parts}
@@ -9,7 +10,8 @@ use Rattle.text_lines.specs.Bytes.{takes}
 use Rattle.text_lines.specs.Reading.{Text, run_at, begins}
 use Rattle.text_lines.specs.Spelling.{IsWord}
 use Rattle.text_lines.proofs.MaybeSigns.{begun}
-use Rattle.text_lines.proofs.SpelledWords.{Run, run_takes, front_again, behind_again, gap_again, gap_breaks}
+use Rattle.text_lines.proofs.SpelledWords.{Run, run_takes, front_again, behind_again, gap_again}
+use Rattle.text_lines.proofs.SpelledWords.{gap_breaks}
 use Rattle.hotkey_rules.proofs.FirstFound.{found_listed}
 use Rattle.hotkey_text.specs.declared.names.TriggerKind.{TriggerKind}
 use Rattle.hotkey_text.specs.declared.names.TriggerKind.TheVariants as trigger
@@ -19,9 +21,13 @@ use Rattle.hotkey_text.specs.Spelling.{BeginsHotkey}
 use Rattle.hotkey_text.proofs.WordsFound.{trigger_found}
 
 -- a word that is a trigger's
-pub trigger_takes : (word : List ℕ) (k : TriggerKind) → trigger_named word ≡ Some k → word ≡ trigger_word k
+pub trigger_takes : (word : List ℕ) (k : TriggerKind) → trigger_named word ≡ Some k
+    → word ≡ trigger_word k
 trigger_takes word k h =
-    sym ((bytes_eq-Decides (trigger_word k) word).0 (found_listed (λ x. bytes_eq (trigger_word x) word) (trigger.Key ∷ trigger.Mouse ∷ []) k h).1)
+    sym
+    ((bytes_eq-Decides (trigger_word k) word).0
+    (found_listed (λ x. bytes_eq (trigger_word x) word) (trigger.Key ∷ trigger.Mouse ∷ []) k
+    h).1)
 
 pub trigger_is_word : (k : TriggerKind) → IsWord (takes kind.Key) (trigger_word k)
 trigger_is_word trigger.Key = (omega arith, refl)
@@ -31,7 +37,8 @@ some_is : {A : Type 0} (o : Option A) → is_some o ≡ true → (x : A) × (o �
 some_is None h = absurd cc
 some_is (Some x) h = (x, refl)
 
-begins_by : (xs : List ℕ) (word : Text × List ℕ) → Run (takes kind.Key) xs word → (is_some (trigger_named word.0.text) && begins 40 word.1) ≡ true → BeginsHotkey xs
+begins_by : (xs : List ℕ) (word : Text × List ℕ) → Run (takes kind.Key) xs word
+    → (is_some (trigger_named word.0.text) && begins 40 word.1) ≡ true → BeginsHotkey xs
 begins_by xs word r h =
     let parts = and_parts (is_some (trigger_named word.0.text)) (begins 40 word.1) h in
     let found = some_is (trigger_named word.0.text) parts.0 in
@@ -41,7 +48,8 @@ begins_by xs word r h =
       behind_word = r.gap.gap;
       rest = opens.0;
       text = r.parts ∙ ap (λ (t : List ℕ). t ++ r.tail) (trigger_takes word.0.text found.0 found.1)
-          ∙ ap (λ (t : List ℕ). trigger_word found.0 ++ t) (r.gap.parts ∙ ap (λ (t : List ℕ). r.gap.gap ++ t) opens.1);
+          ∙ ap (λ (t : List ℕ). trigger_word found.0 ++ t)
+          (r.gap.parts ∙ ap (λ (t : List ℕ). r.gap.gap ++ t) opens.1);
       gap = r.gap.blank;
     }
 

@@ -1,5 +1,6 @@
 -- A modifier that a mask takes is one of a new class.
-use Rattle.std.proofs.Common.{◌≡◌, ℕ, zero, suc, ◌<◌, false, List, Option, Some, None, Result, Ok, Err, refl, ap, subst, ◌∙◌, arith}
+use Rattle.std.proofs.Common.{◌≡◌, ℕ, zero, suc, ◌<◌, false, List, Option, Some, None, Result, Ok}
+use Rattle.std.proofs.Common.{Err, refl, ap, subst, ◌∙◌, arith}
 use Rattle.std.proofs.lemmas.Bool.{cond_both}
 use Rattle.share_base.specs.declared.numbers.Mask.{Mask}
 use Rattle.modifier_map.specs.declared.class.ModClass.{ModClass}
@@ -16,17 +17,22 @@ pub record NewClass (m : Mask) (word : List ℕ) (next : Mask) : Type 0 where
   pub new : has_class m class ≡ false
   pub with_it : grown m class ≡ next
 
-class_of : (m : Mask) (word : List ℕ) (o : Option ModClass) (next : Mask) → class_named word ≡ o → with_class m o ≡ Some next → NewClass m word next
+class_of : (m : Mask) (word : List ℕ) (o : Option ModClass) (next : Mask) → class_named word ≡ o
+    → with_class m o ≡ Some next → NewClass m word next
 class_of m word None next e = λ h. absurd cc
 class_of m word (Some c) next e =
-    cond_both (has_class m c) None (Some (grown m c)) (λ r. r ≡ Some next → NewClass m word next) (λ t h. absurd cc) (λ t h. record { class = c; named = e; new = t; with_it = cc })
+    cond_both (has_class m c) None (Some (grown m c)) (λ r. r ≡ Some next → NewClass m word next)
+    (λ t h. absurd cc) (λ t h. record { class = c; named = e; new = t; with_it = cc })
 
-pub new_class : (m : Mask) (word : Text) (next : Mask) → with_modifier m word ≡ Ok next → NewClass m word.text next
+pub new_class : (m : Mask) (word : Text) (next : Mask) → with_modifier m word ≡ Ok next
+    → NewClass m word.text next
 unfolding with_modifier
-new_class m word next h = class_of m word.text (class_named word.text) next refl (there _ _ _ next h)
+new_class m word next h =
+    class_of m word.text (class_named word.text) next refl (there _ _ _ next h)
 
 -- one modifier more leaves one free class less
-pub next_fewer : (m : Mask) (word : Text) (next : Mask) → m.0 < 32 → with_modifier m word ≡ Ok next → (next.0 < 32) × (free m ≡ suc (free next))
+pub next_fewer : (m : Mask) (word : Text) (next : Mask) → m.0 < 32 → with_modifier m word ≡ Ok next
+    → (next.0 < 32) × (free m ≡ suc (free next))
 next_fewer m word next h e =
     let c = new_class m word next e in
     let small : next.0 < 32 = subst (λ (k : Mask). k.0 < 32) c.with_it (grown_small m c.class h) in

@@ -20,7 +20,8 @@ use Rattle.hotkey_text.specs.declared.names.TriggerKind.TheVariants as trigger
 use Rattle.hotkey_text.specs.declared.names.Deed.TheVariants as deed
 use Rattle.hotkey_text.specs.declared.names.ActionName.{ActionName}
 use Rattle.hotkey_text.specs.declared.names.ActionName.TheVariants as name
-use Rattle.hotkey_text.specs.Names.{action_word, action_names, action_named, trigger_word, trigger_named}
+use Rattle.hotkey_text.specs.Names.{action_word, action_names, action_named, trigger_word}
+use Rattle.hotkey_text.specs.Names.{trigger_named}
 use Rattle.hotkey_text.specs.LockModes.{lock_word, lock_named}
 use Rattle.hotkey_text.specs.Chords.{class_word, class_named}
 
@@ -54,21 +55,31 @@ class_found class.Super = refl
 
 -- ---- the rows of a table
 
-pub listed_passes : {A : Type 0} (p : A → Bool) (xs : List A) (x : A) → list_all p xs ≡ true → Contains xs x → p x ≡ true
-listed_passes p xs x all listed = all_at p xs listed.0 x all (slice_get-get_or xs listed.0 x listed.1 ∙ ap (λ y. Some y) listed.2)
+pub listed_passes : {A : Type 0} (p : A → Bool) (xs : List A) (x : A) → list_all p xs ≡ true
+    → Contains xs x → p x ≡ true
+listed_passes p xs x all listed =
+    all_at p xs listed.0 x all (slice_get-get_or xs listed.0 x listed.1 ∙ ap (λ y. Some y) listed.2)
 
-found_passes : {A : Type 0} (p q : A → Bool) (xs : List A) (x : A) → find q xs ≡ Some x → list_all p xs ≡ true → p x ≡ true
+found_passes : {A : Type 0} (p q : A → Bool) (xs : List A) (x : A) → find q xs ≡ Some x
+    → list_all p xs ≡ true → p x ≡ true
 found_passes p q xs x e all = listed_passes p xs x all (found_listed q xs x e).0
 
-pub each_name : (p : ActionName → Bool) → list_all p action_names ≡ true → (n : ActionName) → p n ≡ true
-each_name p h n = found_passes p (λ x. bytes_eq (action_word x) (action_word n)) action_names n (action_found n) h
+pub each_name : (p : ActionName → Bool) → list_all p action_names ≡ true → (n : ActionName)
+    → p n ≡ true
+each_name p h n =
+    found_passes p (λ x. bytes_eq (action_word x) (action_word n)) action_names n (action_found n) h
 
-pub each_mode : (p : LockMode → Bool) → list_all p (lock.On ∷ lock.Off ∷ lock.Toggle ∷ []) ≡ true → (m : LockMode) → p m ≡ true
-each_mode p h m = found_passes p (λ x. bytes_eq (lock_word x) (lock_word m)) (lock.On ∷ lock.Off ∷ lock.Toggle ∷ []) m (lock_found m) h
+pub each_mode : (p : LockMode → Bool) → list_all p (lock.On ∷ lock.Off ∷ lock.Toggle ∷ []) ≡ true
+    → (m : LockMode) → p m ≡ true
+each_mode p h m =
+    found_passes p (λ x. bytes_eq (lock_word x) (lock_word m))
+    (lock.On ∷ lock.Off ∷ lock.Toggle ∷ []) m (lock_found m) h
 
 pub each_side : (p : Side → Bool) → list_all p sides ≡ true → (s : Side) → p s ≡ true
-each_side p h s = found_passes p (λ x. bytes_eq (side_text x) (side_text s)) sides s (side_found s) h
+each_side p h s =
+    found_passes p (λ x. bytes_eq (side_text x) (side_text s)) sides s (side_found s) h
 
 pub each_class : (p : ModClass → Bool) → list_all p all_classes ≡ true → (c : ModClass) → p c ≡ true
 unfolding class_named
-each_class p h c = found_passes p (λ x. same_name (class_word x) (class_word c)) all_classes c (class_found c) h
+each_class p h c =
+    found_passes p (λ x. same_name (class_word x) (class_word c)) all_classes c (class_found c) h

@@ -1,5 +1,6 @@
 -- What the words of a hotkey's line mean, from left to right: the first fault is that of the line.
-use Rattle.std.specs.Prelude.{ℕ, true, false, not, ◌||◌, if◌then◌else◌, List, length, Result, Ok, Option, Some, None}
+use Rattle.std.specs.Prelude.{ℕ, true, false, not, ◌||◌, if◌then◌else◌, List, length, Result, Ok}
+use Rattle.std.specs.Prelude.{Option, Some, None}
 use Rattle.share_base.specs.declared.numbers.KeyId.{KeyId}
 use Rattle.share_base.specs.declared.numbers.Mask.{Mask}
 use Rattle.share_base.specs.declared.numbers.MouseButton.{MouseButton}
@@ -44,8 +45,8 @@ pub record ScreenText : Type 0 where
   pub word : Text
   pub further : Option ℕ
 
--- what an action's words mean. A screen's word is looked up elsewhere, and only where a screen has it is a further word
--- behind it the fault.
+-- what an action's words mean. A screen's word is looked up elsewhere, and only where a screen has
+-- it is a further word behind it the fault.
 pub data ActionText : Type 0 where
   Key : Deed → KeyId → Mask → ActionText
   Mouse : Deed → MouseButton → Mask → ActionText

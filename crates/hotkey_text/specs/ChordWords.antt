@@ -1,5 +1,7 @@
--- The words of MODS+KEY and of MODS+NUMBER, good or not. Each list of bytes here is the line from there on.
-use Rattle.std.specs.Prelude.{◌≡◌, ℕ, zero, suc, true, false, List, [], ◌∷◌, ◌++◌, length, Option, Some, None}
+-- The words of MODS+KEY and of MODS+NUMBER, good or not. Each list of bytes here is the line from
+-- there on.
+use Rattle.std.specs.Prelude.{◌≡◌, ℕ, zero, suc, true, false, List, [], ◌∷◌, ◌++◌, length, Option}
+use Rattle.std.specs.Prelude.{Some, None}
 use Rattle.text_lines.specs.declared.bytes.WordKind.TheVariants as word_kind
 use Rattle.text_lines.specs.Bytes.{takes, is_tight}
 use Rattle.text_lines.specs.Reading.{Text, run_at, maybe_sign_at, begins}
@@ -19,8 +21,12 @@ word_or_last more word None = record { mods = []; last = word.0; rest = word.1 }
 word_or_last more word (Some rest) = with_mod word.0 (more rest)
 
 unfoldable pub words_within : ℕ → List ℕ → ChordWords
-words_within zero xs = let word = run_at (takes word_kind.Chord) xs in record { mods = []; last = word.0; rest = word.1 }
-words_within (suc n) xs = let word = run_at (takes word_kind.Chord) xs in word_or_last (words_within n) word (maybe_sign_at 43 word.1)
+words_within zero xs =
+    let word = run_at (takes word_kind.Chord) xs in
+    record { mods = []; last = word.0; rest = word.1 }
+words_within (suc n) xs =
+    let word = run_at (takes word_kind.Chord) xs in
+    word_or_last (words_within n) word (maybe_sign_at 43 word.1)
 
 -- no text has more of them than bytes
 abbrev pub chord_words : List ℕ → ChordWords

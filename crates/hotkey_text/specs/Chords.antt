@@ -1,5 +1,6 @@
 -- Modifiers with a + behind each, and the key or the number behind them.
-use Rattle.std.specs.Prelude.{ℕ, Bool, not, ◌==◌, ◌&&◌, if◌then◌else◌, List, [], ◌∷◌, length, Result, Ok, Option, Some, None, codes, bit_and, bit_or}
+use Rattle.std.specs.Prelude.{ℕ, Bool, not, ◌==◌, ◌&&◌, if◌then◌else◌, List, [], ◌∷◌, length}
+use Rattle.std.specs.Prelude.{Result, Ok, Option, Some, None, codes, bit_and, bit_or}
 use Rattle.std.specs.List.{find}
 use Rattle.share_base.specs.declared.numbers.KeyId.{KeyId}
 use Rattle.share_base.specs.declared.numbers.Mask.{Mask}
@@ -39,7 +40,8 @@ has_class mods c = not (bit_and mods.0 (row c).bit == 0)
 -- the mask with one class more, which it may not have already
 abbrev pub with_class : Mask → Option ModClass → Option Mask
 with_class mods None = None
-with_class mods (Some c) = if has_class mods c then None else Some (mask (bit_or mods.0 (row c).bit))
+with_class mods (Some c) =
+    if has_class mods c then None else Some (mask (bit_or mods.0 (row c).bit))
 
 -- the mask with the modifier of that word more
 unfoldable pub with_modifier : Mask → Text → Result Mask HotkeyFault

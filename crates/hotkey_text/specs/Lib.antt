@@ -1,4 +1,3 @@
-pub mod Again
 pub mod Arguments
 pub mod ChordWords
 pub mod Chords
@@ -9,7 +8,8 @@ pub mod Lists
 pub mod LockModes
 pub mod Names
 pub mod Printed
-pub mod Seen
+pub mod RoundTrip
 pub mod Shapes
 pub mod Spelling
 pub mod SpellingWords
+pub mod Views

@@ -1,5 +1,5 @@
--- The words of actions, one line a row: reading and printing follow it. A trigger has the word of the action that does
--- the same.
+-- The words of actions, one line a row: reading and printing follow it. A trigger has the word of
+-- the action that does the same.
 use Rattle.std.specs.Prelude.{ℕ, List, [], ◌∷◌, Option, codes}
 use Rattle.std.specs.List.{find}
 use Rattle.std.specs.Str.{bytes_eq}

@@ -1,5 +1,6 @@
 -- Hotkeys as they are printed.
-use Rattle.std.specs.Prelude.{ℕ, ◌+◌, ◌/◌, ◌%◌, Bool, true, false, nat_lt, if◌then◌else◌, List, [], ◌∷◌, ◌++◌, Option, Some, None, codes}
+use Rattle.std.specs.Prelude.{ℕ, ◌+◌, ◌/◌, ◌%◌, Bool, true, false, nat_lt, if◌then◌else◌, List, []}
+use Rattle.std.specs.Prelude.{◌∷◌, ◌++◌, Option, Some, None, codes}
 use Rattle.std.specs.List.{flat_map}
 use Rattle.std.specs.Fmt.{decimal}
 use Rattle.share_base.specs.declared.numbers.KeyId.{KeyId}
@@ -30,7 +31,9 @@ digit_text d = if nat_lt d 10 then 48 + d else 55 + d
 
 -- \u and four digits
 abbrev pub coded_text : ℕ → List ℕ
-coded_text n = 92 ∷ 117 ∷ digit_text (n / 4096) ∷ digit_text (n / 256 % 16) ∷ digit_text (n / 16 % 16) ∷ digit_text (n % 16) ∷ []
+coded_text n =
+    92 ∷ 117 ∷ digit_text (n / 4096) ∷ digit_text (n / 256 % 16) ∷ digit_text (n / 16 % 16)
+    ∷ digit_text (n % 16) ∷ []
 
 abbrev pub name_or_number : Option (List ℕ) → ℕ → List ℕ
 name_or_number (Some name) n = name
@@ -65,20 +68,26 @@ trigger_text (trigger.Mouse b mods) = call_text (name.Mouse deed.Stroke) (mouse_
 
 -- an action, where a screen to which it switches has that name
 abbrev pub action_text : Action → List ℕ → List ℕ
-action_text (action.KeyStroke id mods button) screen = call_text (name.Key deed.Stroke) (key_chord_text id mods)
-action_text (action.KeyPress id mods button) screen = call_text (name.Key deed.Press) (key_chord_text id mods)
-action_text (action.KeyRelease id mods button) screen = call_text (name.Key deed.Release) (key_chord_text id mods)
-action_text (action.MouseClick mods b) screen = call_text (name.Mouse deed.Stroke) (mouse_chord_text b mods)
-action_text (action.MousePress mods b) screen = call_text (name.Mouse deed.Press) (mouse_chord_text b mods)
-action_text (action.MouseRelease mods b) screen = call_text (name.Mouse deed.Release) (mouse_chord_text b mods)
+action_text (action.KeyStroke id mods button) screen =
+    call_text (name.Key deed.Stroke) (key_chord_text id mods)
+action_text (action.KeyPress id mods button) screen =
+    call_text (name.Key deed.Press) (key_chord_text id mods)
+action_text (action.KeyRelease id mods button) screen =
+    call_text (name.Key deed.Release) (key_chord_text id mods)
+action_text (action.MouseClick mods b) screen =
+    call_text (name.Mouse deed.Stroke) (mouse_chord_text b mods)
+action_text (action.MousePress mods b) screen =
+    call_text (name.Mouse deed.Press) (mouse_chord_text b mods)
+action_text (action.MouseRelease mods b) screen =
+    call_text (name.Mouse deed.Release) (mouse_chord_text b mods)
 action_text (action.Lock mode) screen = call_text name.Lock (lock_word mode)
 action_text (action.SwitchTo number) screen = call_text name.SwitchTo screen
 action_text (action.SwitchToward side) screen = call_text name.SwitchToward (side_text side)
 
 -- ---- the line, of its trigger and its actions
 
--- what stands between the lists: a ; where something is released or nothing is pressed, and a blank behind it only
--- where something is released
+-- what stands between the lists: a ; where something is released or nothing is pressed, and a blank
+-- behind it only where something is released
 abbrev pub between : Bool → Bool → List ℕ
 between has_press true = codes "; "
 between true false = []
@@ -94,4 +103,5 @@ with_commas (t ∷ texts) = t ++ and_further texts
 
 unfoldable pub hotkey_text : List ℕ → List (List ℕ) → List (List ℕ) → List ℕ
 hotkey_text trigger press release =
-    (((trigger ++ codes " = ") ++ with_commas press) ++ between (has_some press) (has_some release)) ++ with_commas release
+    (((trigger ++ codes " = ") ++ with_commas press) ++ between (has_some press) (has_some release))
+    ++ with_commas release

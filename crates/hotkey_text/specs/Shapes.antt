@@ -1,17 +1,22 @@
--- The form of a hotkey's line: `keystroke` or `mousebutton`, an argument in brackets, =, a list of actions, and maybe ;
--- and a second list. A form that can't go on says how many bytes of the line were left there.
-use Rattle.std.specs.Prelude.{ℕ, zero, suc, Bool, true, false, ◌&&◌, if◌then◌else◌, List, [], ◌∷◌, length, Result, Ok, Err, Option, Some, None, is_some}
+-- The form of a hotkey's line: `keystroke` or `mousebutton`, an argument in brackets, =, a list of
+-- actions, and maybe ; and a second list. A form that can't go on says how many bytes of the line
+-- were left there.
+use Rattle.std.specs.Prelude.{ℕ, zero, suc, Bool, true, false, ◌&&◌, if◌then◌else◌, List, [], ◌∷◌}
+use Rattle.std.specs.Prelude.{length, Result, Ok, Err, Option, Some, None, is_some}
 use Rattle.text_lines.specs.declared.bytes.WordKind.TheVariants as kind
 use Rattle.text_lines.specs.Bytes.{takes, behind}
-use Rattle.text_lines.specs.Reading.{Read, ◌>>=◌, Text, run_at, word_at, sign_at, maybe_sign_at, end_at, begins, or_left}
+use Rattle.text_lines.specs.Reading.{Read, ◌>>=◌, Text, run_at, word_at, sign_at, maybe_sign_at}
+use Rattle.text_lines.specs.Reading.{end_at, begins, or_left}
 use Rattle.hotkey_text.specs.declared.names.TriggerKind.{TriggerKind}
 use Rattle.hotkey_text.specs.Names.{trigger_named}
 
 -- it is a hotkey's line: its first word is one of the two, and a ( stands behind it
 abbrev pub is_hotkey : List ℕ → Bool
-is_hotkey xs = let word = run_at (takes kind.Key) xs in is_some (trigger_named word.0.text) && begins 40 word.1
+is_hotkey xs =
+    let word = run_at (takes kind.Key) xs in is_some (trigger_named word.0.text) && begins 40 word.1
 
--- ( and an argument, which goes to the next ), and that sign: the line from the argument on, without blanks in front
+-- ( and an argument, which goes to the next ), and that sign: the line from the argument on,
+-- without blanks in front
 unfoldable pub argument_at : List ℕ → Read (List ℕ)
 argument_at xs = do
   argument ← sign_at 40 xs
@@ -34,14 +39,16 @@ abbrev pub with_first : ActionForm → Read (List ActionForm) → Read (List Act
 with_first action list = list >>= λ others. Ok (action ∷ others.0, others.1)
 
 -- an action and what follows it: one more list, or nothing of the list
-abbrev pub and_more : (List ℕ → Read (List ActionForm)) → ActionForm × List ℕ → Option (List ℕ) → Read (List ActionForm)
+abbrev pub and_more : (List ℕ → Read (List ActionForm)) → ActionForm × List ℕ → Option (List ℕ)
+    → Read (List ActionForm)
 and_more list action None = Ok (action.0 ∷ [], action.1)
 and_more list action (Some rest) = with_first action.0 (list rest)
 
 -- actions with commas between, of at most so many
 unfoldable pub actions_within : ℕ → List ℕ → Read (List ActionForm)
 actions_within zero xs = Err (length xs)
-actions_within (suc n) xs = action_at xs >>= λ action. and_more (actions_within n) action (maybe_sign_at 44 action.1)
+actions_within (suc n) xs =
+    action_at xs >>= λ action. and_more (actions_within n) action (maybe_sign_at 44 action.1)
 
 -- no text has more actions than bytes
 abbrev pub actions_at : List ℕ → Read (List ActionForm)
@@ -84,4 +91,11 @@ hotkey_at xs = do
   rest ← sign_at 61 argument.1
   press ← press_at rest
   release ← release_at press.1
-  Ok (record { kind = trigger; argument = argument.0; press = press.0; released = release.0; release = release.1 })
+  Ok
+      (record {
+        kind = trigger;
+        argument = argument.0;
+        press = press.0;
+        released = release.0;
+        release = release.1;
+      })

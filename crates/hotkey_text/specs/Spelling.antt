@@ -1,5 +1,6 @@
--- A hotkey's line in its own words: which texts are such lines, with gaps as one likes behind words and signs. What an
--- argument or a list is made of goes to some place of the line, so each part here names the rest of the line behind it.
+-- A hotkey's line in its own words: which texts are such lines, with gaps as one likes behind words
+-- and signs. What an argument or a list is made of goes to some place of the line, so each part
+-- here names the rest of the line behind it.
 use Rattle.std.specs.Prelude.{◌≡◌, ℕ, Bool, true, false, List, [], ◌∷◌, ◌++◌, length, ◌⊎◌}
 use Rattle.text_lines.specs.declared.bytes.WordKind.TheVariants as kind
 use Rattle.text_lines.specs.Bytes.{takes, is_tight}
@@ -17,7 +18,8 @@ pub record BeginsHotkey (xs : List ℕ) : Type 0 where
   pub text : xs ≡ trigger_word of ++ (behind_word ++ 40 ∷ rest)
   pub gap : IsGap behind_word
 
--- (ARGUMENT), which the first ) closes; the argument begins with no blank, and here is the line from it on
+-- (ARGUMENT), which the first ) closes; the argument begins with no blank, and here is the line
+-- from it on
 pub record SpellsBrackets (xs argument rest : List ℕ) : Type 0 where
   pub behind_open : List ℕ
   pub inside : List ℕ
@@ -57,16 +59,20 @@ SpellsFurther xs (a ∷ actions) rest = SpellsNext xs a (λ behind. SpellsFurthe
 -- actions with commas between, or nothing
 abbrev pub SpellsList : List ℕ → List ActionForm → List ℕ → Type 0
 SpellsList xs [] rest = xs ≡ rest
-SpellsList xs (a ∷ actions) rest = (behind : List ℕ) × SpellsAction xs a behind × SpellsFurther behind actions rest
+SpellsList xs (a ∷ actions) rest =
+    (behind : List ℕ) × SpellsAction xs a behind × SpellsFurther behind actions rest
 
 -- ---- the line
 
 -- nothing, or a ; and a list
 abbrev pub SpellsRelease : List ℕ → Bool → List ActionForm → Type 0
 SpellsRelease xs false actions = (xs ≡ []) × (actions ≡ [])
-SpellsRelease xs true actions = (behind_sign : List ℕ) × (list : List ℕ) × (xs ≡ 59 ∷ (behind_sign ++ list)) × IsGap behind_sign × SpellsList list actions []
+SpellsRelease xs true actions =
+    (behind_sign : List ℕ) × (list : List ℕ) × (xs ≡ 59 ∷ (behind_sign ++ list)) × IsGap behind_sign
+    × SpellsList list actions []
 
--- keystroke(ARGUMENT) = LIST, or mousebutton, and maybe ; LIST. A ; right behind the = is no word of an action.
+-- keystroke(ARGUMENT) = LIST, or mousebutton, and maybe ; LIST. A ; right behind the = is no word
+-- of an action.
 pub record SpellsHotkey (xs : List ℕ) (line : HotkeyForm) : Type 0 where
   pub behind_word : List ℕ
   pub brackets : List ℕ

@@ -1,5 +1,7 @@
--- The words in a hotkey's brackets, in their own words. Each list of bytes here is the line from there on.
-use Rattle.std.specs.Prelude.{◌≡◌, ◌≢◌, ℕ, ◌+◌, ◌≤◌, ◌<◌, Bool, true, false, ◌||◌, if◌then◌else◌, List, [], ◌∷◌, ◌++◌, length, Some, None, ◌⊎◌}
+-- The words in a hotkey's brackets, in their own words. Each list of bytes here is the line from
+-- there on.
+use Rattle.std.specs.Prelude.{◌≡◌, ◌≢◌, ℕ, ◌+◌, ◌≤◌, ◌<◌, Bool, true, false, ◌||◌, if◌then◌else◌}
+use Rattle.std.specs.Prelude.{List, [], ◌∷◌, ◌++◌, length, Some, None, ◌⊎◌}
 use Rattle.std.specs.Fmt.{decimal}
 use Rattle.share_base.specs.Names.{same_name}
 use Rattle.share_base.specs.Sides.{side_text}
@@ -25,7 +27,8 @@ use Rattle.hotkey_text.specs.Keys.{key_named}
 use Rattle.hotkey_rules.specs.WellFormed.{is_modifier_key}
 use Rattle.hotkey_text.specs.Chords.{mask, class_word}
 use Rattle.hotkey_text.specs.Shapes.{ActionForm, HotkeyForm, has_some}
-use Rattle.hotkey_text.specs.Arguments.{ScreenText, ActionText, Key, Mouse, Lock, SwitchTo, SwitchToward}
+use Rattle.hotkey_text.specs.Arguments.{ScreenText, ActionText, Key, Mouse, Lock, SwitchTo}
+use Rattle.hotkey_text.specs.Arguments.{SwitchToward}
 
 -- a word, and what follows the gap behind it
 pub record SpellsWord (xs word rest : List ℕ) : Type 0 where
@@ -49,7 +52,8 @@ pub record SpellsMod (xs : List ℕ) (c : ModClass) (rest : List ℕ) : Type 0 w
 
 abbrev pub SpellsMods : List ℕ → List ModClass → List ℕ → Type 0
 SpellsMods xs [] rest = xs ≡ rest
-SpellsMods xs (c ∷ classes) rest = (behind : List ℕ) × SpellsMod xs c behind × SpellsMods behind classes rest
+SpellsMods xs (c ∷ classes) rest =
+    (behind : List ℕ) × SpellsMod xs c behind × SpellsMods behind classes rest
 
 abbrev pub IsNone : ModClass → List ModClass → Type 0
 IsNone c [] = Unit {0}
@@ -91,13 +95,16 @@ pub record SpellsMouseChord (xs : List ℕ) (chord : MouseChord) : Type 0 where
 -- ---- triggers
 
 abbrev pub SpellsChord : TriggerKind → List ℕ → Trigger → Type 0
-SpellsChord trigger_kind.Key xs (trigger.Key id mods) = SpellsKeyChord false xs (record { id = id; mods = mods })
-SpellsChord trigger_kind.Mouse xs (trigger.Mouse b mods) = SpellsMouseChord xs (record { b = b; mods = mods })
+SpellsChord trigger_kind.Key xs (trigger.Key id mods) =
+    SpellsKeyChord false xs (record { id = id; mods = mods })
+SpellsChord trigger_kind.Mouse xs (trigger.Mouse b mods) =
+    SpellsMouseChord xs (record { b = b; mods = mods })
 SpellsChord of xs t = ⊥
 
 -- its trigger; and a list of actions stands there, or a ;
 abbrev pub SpellsTrigger : HotkeyForm → Trigger → Type 0
-SpellsTrigger line t = SpellsChord line.kind line.argument t × ((line.released || has_some line.press) ≡ true)
+SpellsTrigger line t =
+    SpellsChord line.kind line.argument t × ((line.released || has_some line.press) ≡ true)
 
 -- ---- actions
 
@@ -112,11 +119,15 @@ pub record SpellsScreen (xs : List ℕ) (s : ScreenText) : Type 0 where
   pub place : s.word.left ≡ length xs
 
 abbrev pub SpellsArgument : ActionName → List ℕ → ActionText → Type 0
-SpellsArgument (name.Key deed) xs text = (c : KeyChord) × SpellsKeyChord true xs c × (text ≡ Key deed c.id c.mods)
-SpellsArgument (name.Mouse deed) xs text = (c : MouseChord) × SpellsMouseChord xs c × (text ≡ Mouse deed c.b c.mods)
+SpellsArgument (name.Key deed) xs text =
+    (c : KeyChord) × SpellsKeyChord true xs c × (text ≡ Key deed c.id c.mods)
+SpellsArgument (name.Mouse deed) xs text =
+    (c : MouseChord) × SpellsMouseChord xs c × (text ≡ Mouse deed c.b c.mods)
 SpellsArgument name.Lock xs text = (m : LockMode) × SpellsLast xs (lock_word m) × (text ≡ Lock m)
 SpellsArgument name.SwitchTo xs text = (s : ScreenText) × SpellsScreen xs s × (text ≡ SwitchTo s)
-SpellsArgument name.SwitchToward xs text = (s : Side) × SpellsLast xs (side_text s) × (text ≡ SwitchToward s)
+SpellsArgument name.SwitchToward xs text =
+    (s : Side) × SpellsLast xs (side_text s) × (text ≡ SwitchToward s)
 
 abbrev pub SpellsWords : ActionForm → ActionText → Type 0
-SpellsWords form text = (n : ActionName) × (form.word.text ≡ action_word n) × SpellsArgument n form.argument text
+SpellsWords form text =
+    (n : ActionName) × (form.word.text ≡ action_word n) × SpellsArgument n form.argument text

@@ -1,4 +1,4 @@
-//! Modifiers with a `+` behind each, and the key or the number behind them.
+//! Modifiers with a `+` after each, and the key or the number after them.
 
 use share_base::{KeyId, Mask, MouseButton};
 

@@ -1,9 +1,10 @@
-//! Forms in a hotkey's line. An error says how many bytes of the line were left where its form can't go on.
+//! Forms in a hotkey's line. An error says how many bytes of the line were left where its form
+//! can't go on.
 
 ghost use Rattle.std.specs.Prelude.{◌≡◌};
 ghost use Rattle.text_lines.specs.Reading.{Gives};
 ghost use Rattle.hotkey_text.specs.Shapes.{argument_at, action_at};
-ghost use Rattle.hotkey_text.specs.Seen.{form_text};
+ghost use Rattle.hotkey_text.specs.Views.{form_text};
 
 use text_lines::{Word, WordKind, sign, whole_word, word_len};
 
@@ -12,7 +13,8 @@ use text_lines::{Word, WordKind, sign, whole_word, word_len};
 pub struct ActionForm<'a> {
     /// Its word.
     pub word: Word<'a>,
-    /// The line from the action's argument on, which goes to the next `)`. No blank stands in front.
+    /// The line from the action's argument on, which goes to the next `)`. No blank stands in
+    /// front.
     pub argument: &'a [u8],
 }
 

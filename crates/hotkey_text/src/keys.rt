@@ -81,7 +81,7 @@ fn coded_key(word: &[u8]) -> Option<KeyId>
     }
 }
 
-/// The key that a word spells. `None` comes exactly where it spells none.
+/// The key that a word spells. `None` if it spells none.
 #[tactic(auto, unfolding(crate::specs::Keys::key_named))]
 pub(crate) fn key_named(word: &[u8]) -> Option<KeyId>
     ensures { result ≡ spec.key_named word.now }

@@ -1,16 +1,16 @@
 //! The text of hotkeys: how a line of one is read, and how it is printed again.
 //!
-//! A line is read in two steps. Its form comes first, and where the form can't go on the whole line is
-//! refused. Then the words of its arguments are judged from left to right. Each refusal says how many
-//! bytes of the line were left where it stands.
+//! A line is read in two steps. Its form comes first, and where the form can't go on the whole line
+//! is refused. Then the words of its arguments are judged from left to right. Each refusal says how
+//! many bytes of the line were left where it stands.
 //!
-//! It owns the form of the line (`specs/Shapes.antt`), the words of actions (`specs/Names.antt`), keys
-//! (`specs/Keys.antt`), modifiers and what stands behind them (`specs/Chords.antt`), arguments
+//! It owns the form of the line (`specs/Shapes.antt`), the words of actions (`specs/Names.antt`),
+//! keys (`specs/Keys.antt`), modifiers and what stands after them (`specs/Chords.antt`), arguments
 //! (`specs/Arguments.antt`), the printed form (`specs/Printed.antt`) and what is read of it again
-//! (`specs/Again.antt`). The same lines and arguments in words, gaps and signs, without an order of steps, are
-//! `specs/Spelling.antt` and `specs/SpellingWords.antt`; all faults of a line's words are
-//! `specs/FaultLists.antt`. It may know no other line of a configuration, and no screen: it hands a screen's
-//! word on.
+//! (`specs/RoundTrip.antt`). The same lines and arguments in words, gaps and signs, without an
+//! order of steps, are `specs/Spelling.antt` and `specs/SpellingWords.antt`; all faults of a line's
+//! words are `specs/FaultLists.antt`. It may know no other line of a configuration, and no screen:
+//! it hands a screen's word on.
 #![tactic(auto)]
 
 mod arguments;

@@ -16,7 +16,7 @@ pub struct ActionList<'a> {
 
 impl<'a> ActionList<'a> {
     ghost use Rattle.hotkey_text.specs.Shapes.{has_some};
-    ghost use Rattle.hotkey_text.specs.Seen.{form_text, list_text};
+    ghost use Rattle.hotkey_text.specs.Views.{form_text, list_text};
 
     /// The list with no action.
     pub(crate) fn empty() -> ActionList<'a>
@@ -40,9 +40,10 @@ impl<'a> ActionList<'a> {
         self.rest.is_none()
     }
 
-    /// The first action, and the list of the others. `None` comes exactly where the list has no action.
+    /// The first action, and the list of the others. `None` if the list has no action.
     pub fn split_first(&self) -> Option<(ActionForm<'a>, ActionList<'a>)>
-        ensures { MatchOption result (list_text self.now ≡ []) (λ x. list_text self.now ≡ form_text x.0 ∷ list_text x.1) }
+        ensures { MatchOption result (list_text self.now ≡ [])
+            (λ x. list_text self.now ≡ form_text x.0 ∷ list_text x.1) }
     {
         match self.rest {
             None => None,

@@ -17,7 +17,7 @@ pub(crate) fn lock_word(mode: LockMode) -> &'static [u8]
     }
 }
 
-/// The mode of that word. `None` comes exactly where it is none of them.
+/// The mode of that word. `None` if it is none of them.
 pub(crate) fn lock_named(word: &[u8]) -> Option<LockMode>
     ensures { result ≡ lock_named word.now }
 {

@@ -2,8 +2,9 @@
 
 ghost use Rattle.std.specs.Prelude.{◌≡◌};
 ghost use Rattle.text_lines.specs.Reading.{Gives};
-ghost use Rattle.hotkey_text.specs.Arguments.{trigger_at, trigger_of, lock_at, side_at, screen_at, argument_of, action_of};
-ghost use Rattle.hotkey_text.specs.Seen.{form_text, line_text, screen_text, words_text};
+ghost use Rattle.hotkey_text.specs.Arguments.{trigger_at, trigger_of, lock_at, side_at, screen_at};
+ghost use Rattle.hotkey_text.specs.Arguments.{argument_of, action_of};
+ghost use Rattle.hotkey_text.specs.Views.{form_text, line_text, screen_text, words_text};
 
 use crate::arguments::{ActionWords, ScreenWord};
 use crate::faults::{HotkeyFault, HotkeyKind, found, unless};
@@ -37,8 +38,8 @@ fn trigger_at(kind: TriggerKind, argument: &[u8]) -> Result<Trigger, HotkeyFault
     }
 }
 
-/// What sets the hotkey of a line off. An error is the first fault of the trigger's words; or `BadValue` at
-/// the line's end, where neither an action nor a `;` stands.
+/// What sets the hotkey of a line off. An error is the first fault of the trigger's words; or
+/// `BadValue` at the line's end, where neither an action nor a `;` stands.
 #[tactic(auto, unfolding(crate::specs::Arguments::trigger_of))]
 pub fn trigger(line: HotkeyForm<'_>) -> Result<Trigger, HotkeyFault>
     ensures { result ≡ trigger_of (line_text line.entry) }
@@ -112,8 +113,8 @@ fn argument(name: ActionName, bytes: &[u8]) -> Result<ActionWords<'_>, HotkeyFau
     }
 }
 
-/// What an action's words mean. An error is the first fault of its words; that a screen's word names none,
-/// and then that a further word stands behind it, is left to the caller.
+/// What an action's words mean. An error is the first fault of its words; that a screen's word
+/// names none, and then that a further word stands after it, is left to the caller.
 #[tactic(auto, unfolding(crate::specs::Arguments::action_of))]
 pub fn action_words(form: ActionForm<'_>) -> Result<ActionWords<'_>, HotkeyFault>
     ensures { Gives words_text result (action_of (form_text form.entry)) }

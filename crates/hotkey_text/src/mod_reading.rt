@@ -1,8 +1,8 @@
-//! Modifiers with a `+` behind each, and the key or the number behind them.
+//! Modifiers with a `+` after each, and the key or the number after them.
 
 ghost use Rattle.std.specs.Prelude.{◌≡◌, ◌≤◌, IfSome};
 ghost use Rattle.text_lines.specs.Reading.{Gives};
-ghost use Rattle.text_lines.specs.Seen.{word_text};
+ghost use Rattle.text_lines.specs.Views.{word_text};
 ghost use Rattle.hotkey_text.specs.Chords as spec;
 ghost use Rattle.hotkey_text.specs.Chords.{mods_at, closed_at, key_chord_at, mouse_chord_at};
 
@@ -64,7 +64,7 @@ fn with_modifier(mods: Mask, word: Word<'_>) -> Result<Mask, HotkeyFault>
     )
 }
 
-/// The modifiers in front of the last word, that word, and what follows it.
+/// The modifiers before the last word, that word, and what follows it.
 fn mods(bytes: &[u8]) -> Result<(Mask, Word<'_>, &[u8]), HotkeyFault>
     ensures { Gives (λ x. (x.0, word_text x.1, x.2.now)) result (mods_at bytes.now) }
 {

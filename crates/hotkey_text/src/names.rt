@@ -81,7 +81,7 @@ impl ActionName {
         }
     }
 
-    /// What the word means. `None` comes exactly where no action has it.
+    /// What the word means. `None` if no action has it.
     pub(crate) fn named(word: &[u8]) -> Option<ActionName>
         ensures { result ≡ spec.action_named word.now }
     {
@@ -109,7 +109,7 @@ impl TriggerKind {
         }
     }
 
-    /// The kind with that word. `None` comes exactly where neither has it.
+    /// The kind with that word. `None` if neither has it.
     pub(crate) fn named(word: &[u8]) -> Option<TriggerKind>
         ensures { result ≡ spec.trigger_named word.now }
     {

@@ -3,7 +3,8 @@
 ghost use Rattle.std.specs.Prelude.{◌≡◌, ◌<◌, ◌++◌, OnOk};
 ghost use Rattle.std.specs.Fmt.{decimal};
 ghost use Rattle.hotkey_text.specs.Printed as spec;
-ghost use Rattle.hotkey_text.specs.Printed.{key_chord_text, mouse_chord_text, call_text, trigger_text, action_text};
+ghost use Rattle.hotkey_text.specs.Printed.{key_chord_text, mouse_chord_text, call_text};
+ghost use Rattle.hotkey_text.specs.Printed.{trigger_text, action_text};
 
 use crate::keys::is_plain;
 use crate::lock_modes::lock_word;
@@ -91,7 +92,8 @@ fn put_call(name: ActionName, argument: &[u8], out: &mut Octets) -> Result<(), O
 
 #[tactic(auto, unfolding(crate::specs::Printed::call_text))]
 fn put_key_call(deed: Deed, id: KeyId, mods: Mask, out: &mut Octets) -> Result<(), OutOfMemory>
-    ensures { OnOk result (out.new ≡ out.old ++ call_text (ActionName.Key deed) (key_chord_text id mods)) }
+    ensures { OnOk result
+        (out.new ≡ out.old ++ call_text (ActionName.Key deed) (key_chord_text id mods)) }
 {
     out.extend(ActionName::Key(deed).word())?;
     out.extend(b"(")?;
@@ -107,7 +109,8 @@ fn put_mouse_call(
     mods: Mask,
     out: &mut Octets,
 ) -> Result<(), OutOfMemory>
-    ensures { OnOk result (out.new ≡ out.old ++ call_text (ActionName.Mouse deed) (mouse_chord_text b mods)) }
+    ensures { OnOk result
+        (out.new ≡ out.old ++ call_text (ActionName.Mouse deed) (mouse_chord_text b mods)) }
 {
     out.extend(ActionName::Mouse(deed).word())?;
     out.extend(b"(")?;
@@ -116,8 +119,8 @@ fn put_mouse_call(
     out.extend(b")")
 }
 
-/// Adds a trigger, as `keystroke(MODS+KEY)` or `mousebutton(MODS+NUMBER)`. After `OutOfMemory` some of it
-/// may have been added.
+/// Adds a trigger, as `keystroke(MODS+KEY)` or `mousebutton(MODS+NUMBER)`. After `OutOfMemory` some
+/// of it may have been added.
 pub fn put_trigger(trigger: Trigger, out: &mut Octets) -> Result<(), OutOfMemory>
     ensures { OnOk result (out.new ≡ out.old ++ trigger_text trigger) }
 {
@@ -127,8 +130,8 @@ pub fn put_trigger(trigger: Trigger, out: &mut Octets) -> Result<(), OutOfMemory
     }
 }
 
-/// Adds an action, as `WORD(ARGUMENT)`, where `screen` is the name of the screen to which it switches, if
-/// it does. After `OutOfMemory` some of it may have been added.
+/// Adds an action, as `WORD(ARGUMENT)`, where `screen` is the name of the screen to which it
+/// switches, if it does. After `OutOfMemory` some of it may have been added.
 pub fn put_action(action: Action, screen: &[u8], out: &mut Octets) -> Result<(), OutOfMemory>
     ensures { OnOk result (out.new ≡ out.old ++ action_text action screen.now) }
 {
@@ -145,8 +148,8 @@ pub fn put_action(action: Action, screen: &[u8], out: &mut Octets) -> Result<(),
     }
 }
 
-/// What stands between the two lists of actions: a `;` where something is released or nothing is pressed,
-/// and a blank behind it where something is released.
+/// What stands between the two lists of actions: a `;` where something is released or nothing is
+/// pressed, and a blank after it where something is released.
 pub fn between(has_press: bool, has_release: bool) -> &'static [u8]
     ensures { result.now ≡ spec.between has_press has_release }
 {

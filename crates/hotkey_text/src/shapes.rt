@@ -1,11 +1,12 @@
-//! The line of a hotkey. An error says how many bytes of the line were left where its form can't go on.
+//! The line of a hotkey. An error says how many bytes of the line were left where its form can't go
+//! on.
 
 ghost use Rattle.std.specs.Prelude.{◌≡◌};
 ghost use Rattle.text_lines.specs.Reading.{Gives};
 ghost use Rattle.hotkey_text.specs.Shapes as spec;
 ghost use Rattle.hotkey_text.specs.Shapes.{actions_at, list_at, press_at, release_at, hotkey_at};
 ghost use Rattle.hotkey_text.specs.Lists.{behind_of};
-ghost use Rattle.hotkey_text.specs.Seen.{list_text, line_text};
+ghost use Rattle.hotkey_text.specs.Views.{list_text, line_text};
 
 use crate::forms::{action, argument};
 use crate::lists::ActionList;
@@ -17,7 +18,8 @@ use text_lines::{WordKind, begins, end, maybe_sign, run, sign, whole_word};
 pub struct HotkeyForm<'a> {
     /// What sets it off.
     pub kind: TriggerKind,
-    /// The line from the trigger's argument on, which goes to the next `)`. No blank stands in front.
+    /// The line from the trigger's argument on, which goes to the next `)`. No blank stands in
+    /// front.
     pub argument: &'a [u8],
     /// The actions when the trigger goes down.
     pub press: ActionList<'a>,
@@ -27,8 +29,8 @@ pub struct HotkeyForm<'a> {
     pub release: ActionList<'a>,
 }
 
-/// Whether the words of a line are those of a hotkey: the first is `keystroke` or `mousebutton`, and a `(`
-/// stands behind it.
+/// Whether the words of a line are those of a hotkey: the first is `keystroke` or `mousebutton`,
+/// and a `(` stands after it.
 pub fn is_hotkey(bytes: &[u8]) -> bool
     ensures { result ≡ spec.is_hotkey bytes.now }
 {
@@ -85,8 +87,9 @@ fn release(bytes: &[u8]) -> Result<(bool, ActionList<'_>), usize>
     Ok((true, actions))
 }
 
-/// The parts of a line of a hotkey, which is given without its comment and without blanks at its ends. An
-/// error says how many of its bytes were left where its form can't go on, 0 where it ends too early.
+/// The parts of a line of a hotkey, which is given without its comment and without blanks at its
+/// ends. An error says how many of its bytes were left where its form can't go on, 0 where it ends
+/// too early.
 #[tactic(auto, unfolding(crate::specs::Shapes::hotkey_at))]
 pub fn hotkey(bytes: &[u8]) -> Result<HotkeyForm<'_>, usize>
     ensures { Gives line_text result (hotkey_at bytes.now) }

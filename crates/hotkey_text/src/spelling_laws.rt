@@ -1,5 +1,5 @@
-//! Laws that say in words, gaps and signs how a hotkey's line is spelled. The calls do nothing: their contracts are
-//! the laws.
+//! Laws that say in words, gaps and signs how a hotkey's line is spelled. The calls do nothing:
+//! their contracts are the laws.
 
 ghost use Rattle.std.specs.Prelude.{◌≡◌, ◌≤◌, ℕ, List, true, Ok, Err};
 ghost use Rattle.text_lines.specs.Spelling.{StopsAt};
@@ -17,24 +17,31 @@ pub fn hotkeys_begin_with_their_word()
 
 /// A line is read as a hotkey's if and only if it is spelled so.
 pub fn hotkeys_are_spelled()
-    ensures spelled { (xs : List ℕ) (line : HotkeyForm) → hotkey_at xs ≡ Ok line → SpellsHotkey xs line }
-    ensures read { (xs : List ℕ) (line : HotkeyForm) → SpellsHotkey xs line → hotkey_at xs ≡ Ok line }
+    ensures spelled { (xs : List ℕ) (line : HotkeyForm) → hotkey_at xs ≡ Ok line
+        → SpellsHotkey xs line }
+    ensures read { (xs : List ℕ) (line : HotkeyForm) → SpellsHotkey xs line
+        → hotkey_at xs ≡ Ok line }
 {}
 
-/// If a line that is taken for a hotkey's isn't read as one, its bytes before that column begin a hotkey's line,
-/// and with the byte in that column they don't.
+/// If a line that is taken for a hotkey's isn't read as one, its bytes before that column begin a
+/// hotkey's line, and with the byte in that column they don't.
 pub fn hotkeys_stop_where_they_cannot_go_on()
-    ensures { (xs : List ℕ) (left : ℕ) → is_hotkey xs ≡ true → hotkey_at xs ≡ Err left → StopsAt IsHotkey xs left }
+    ensures { (xs : List ℕ) (left : ℕ) → is_hotkey xs ≡ true → hotkey_at xs ≡ Err left
+        → StopsAt IsHotkey xs left }
 {}
 
 /// A trigger is read if and only if it is spelled.
 pub fn triggers_are_spelled()
-    ensures spelled { (line : HotkeyForm) (t : Trigger) → trigger_of line ≡ Ok t → SpellsTrigger line t }
-    ensures read { (line : HotkeyForm) (t : Trigger) → SpellsTrigger line t → trigger_of line ≡ Ok t }
+    ensures spelled { (line : HotkeyForm) (t : Trigger) → trigger_of line ≡ Ok t
+        → SpellsTrigger line t }
+    ensures read { (line : HotkeyForm) (t : Trigger) → SpellsTrigger line t
+        → trigger_of line ≡ Ok t }
 {}
 
 /// The words of an action are read if and only if they are spelled.
 pub fn actions_are_spelled()
-    ensures spelled { (form : ActionForm) (text : ActionText) → action_of form ≡ Ok text → SpellsWords form text }
-    ensures read { (form : ActionForm) (text : ActionText) → SpellsWords form text → action_of form ≡ Ok text }
+    ensures spelled { (form : ActionForm) (text : ActionText) → action_of form ≡ Ok text
+        → SpellsWords form text }
+    ensures read { (form : ActionForm) (text : ActionText) → SpellsWords form text
+        → action_of form ≡ Ok text }
 {}

@@ -1,5 +1,6 @@
 -- When the next beat of a keep-alive is due, and when the peer counts as dead.
-use Rattle.std.specs.Prelude.{ℕ, ◌+◌, ◌*◌, min, Bool, not, ◌&&◌, ◌==◌, nat_le, if◌then◌else◌, Option, Some, None}
+use Rattle.std.specs.Prelude.{ℕ, ◌+◌, ◌*◌, min, Bool, not, ◌&&◌, ◌==◌, nat_le, if◌then◌else◌}
+use Rattle.std.specs.Prelude.{Option, Some, None}
 use Rattle.keepalive_clock.specs.declared.alive.Alive.{Alive}
 use Rattle.share_base.specs.Moments.{moment_of}
 

@@ -18,8 +18,8 @@ fn beats_and_the_death_come_at_their_moments(rt: HostRuntime) {
     assert_eq!(rt; alive.death(), Some(9001));
 }
 
-/// Rows of the moment of the last message, the rate, a moment, and whether the peer is dead then. The
-/// last three are about moments above the last one, which is 4,611,686,018,427,387,904.
+/// Rows of the moment of the last message, the rate, a moment, and whether the peer is dead then.
+/// The last three are about moments above the last one, which is 4,611,686,018,427,387,904.
 #[test]
 fn a_peer_is_dead_after_three_rates(rt: HostRuntime) {
     let rows = [

@@ -10,7 +10,8 @@ use Rattle.message_codec.specs.declared.messages.Msg.TheVariants as msg
 use Rattle.message_codec.specs.declared.coding.Code.{Code}
 use Rattle.message_codec.specs.declared.coding.Code.TheVariants as code
 use Rattle.message_codec.specs.Fields.{Field, Byte, Half, Signed, Word, Clip, Mark, Text, Words}
-use Rattle.message_codec.specs.Messages.{the_signed, the_number, the_list, clip_of, mark_of, field_at, built}
+use Rattle.message_codec.specs.Messages.{the_signed, the_number, the_list, clip_of, mark_of}
+use Rattle.message_codec.specs.Messages.{field_at, built}
 use Rattle.message_codec.specs.Table.{code_of, fields}
 
 pub built-parts : (m : Msg) → built (code_of m) (fields m) ≡ m
@@ -26,4 +27,6 @@ built-parts (msg.ClipPart clips.Selection seq marks.End bytes) = refl
 built-parts m = refl
 
 pub same_parts : (m n : Msg) → code_of m ≡ code_of n → fields m ≡ fields n → m ≡ n
-same_parts m n codes same = sym (built-parts m) ∙ ap (λ (c : Code). built c (fields m)) codes ∙ ap (built (code_of n)) same ∙ built-parts n
+same_parts m n codes same =
+    sym (built-parts m) ∙ ap (λ (c : Code). built c (fields m)) codes ∙ ap (built (code_of n)) same
+    ∙ built-parts n

@@ -19,8 +19,15 @@ pub record Reads (from : End) (body : List ℕ) (read : Read (List Field)) : Typ
 
 abbrev pub Faults : BadBody → End → List ℕ → Type 0
 Faults bad.UnknownCode from body = (c : Code) (rest : List ℕ) → body ≡ text c ++ rest → ⊥
-Faults bad.WrongEnd from body = ((c : Code) × (rest : List ℕ) × (body ≡ text c ++ rest)) × ((c : Code) (rest : List ℕ) → SentBy c from → body ≡ text c ++ rest → ⊥)
-Faults (bad.Short at) from body = (left : ℕ) × Reads from body (Err left) × (at ≡ length body - left)
-Faults (bad.Trailing at) from body = (fs : List Field) × (rest : List ℕ) × Reads from body (Ok (fs, rest)) × (0 < length rest) × (at ≡ length body - length rest)
-Faults (bad.BadClip at) from body = (fs : List Field) × (r : Reads from body (Ok (fs, []))) × Misfits (bad.BadClip at) r.code fs
-Faults (bad.BadMark at) from body = (fs : List Field) × (r : Reads from body (Ok (fs, []))) × Misfits (bad.BadMark at) r.code fs
+Faults bad.WrongEnd from body =
+    ((c : Code) × (rest : List ℕ) × (body ≡ text c ++ rest))
+    × ((c : Code) (rest : List ℕ) → SentBy c from → body ≡ text c ++ rest → ⊥)
+Faults (bad.Short at) from body =
+    (left : ℕ) × Reads from body (Err left) × (at ≡ length body - left)
+Faults (bad.Trailing at) from body =
+    (fs : List Field) × (rest : List ℕ) × Reads from body (Ok (fs, rest)) × (0 < length rest)
+    × (at ≡ length body - length rest)
+Faults (bad.BadClip at) from body =
+    (fs : List Field) × (r : Reads from body (Ok (fs, []))) × Misfits (bad.BadClip at) r.code fs
+Faults (bad.BadMark at) from body =
+    (fs : List Field) × (r : Reads from body (Ok (fs, []))) × Misfits (bad.BadMark at) r.code fs

@@ -1,5 +1,6 @@
 -- Fields of a row's kinds are a message's, or one of them is out of range.
-use Rattle.std.proofs.Common.{◌≡◌, ℕ, ℤ, zero, suc, List, [], ◌∷◌, map, refl, sym, ap, subst, ◌∙◌, arith, inl, inr}
+use Rattle.std.proofs.Common.{◌≡◌, ℕ, ℤ, zero, suc, List, [], ◌∷◌, map, refl, sym, ap, subst, ◌∙◌}
+use Rattle.std.proofs.Common.{arith, inl, inr}
 use Rattle.std.specs.Prelude.{◌⊎◌}
 use Rattle.share_base.specs.Clips.{clip_number}
 use Rattle.share_base.specs.declared.clip_id.ClipId.{ClipId}
@@ -15,7 +16,8 @@ use Rattle.message_codec.specs.declared.faults.BadBody.TheVariants as bad
 use Rattle.message_codec.specs.Marks.{mark_number}
 use Rattle.message_codec.specs.Kinds.{Kind}
 use Rattle.message_codec.specs.Kinds as kind
-use Rattle.message_codec.specs.Fields.{Field, Byte, Half, Signed, Word, Clip, Mark, Text, Words, kind_of}
+use Rattle.message_codec.specs.Fields.{Field, Byte, Half, Signed, Word, Clip, Mark, Text, Words}
+use Rattle.message_codec.specs.Fields.{kind_of}
 use Rattle.message_codec.specs.Table.{kinds, code_of, fields}
 use Rattle.message_codec.specs.Refusals.{Misfits}
 use Rattle.message_codec.specs.Messages.{the_signed, the_number, the_list, field_at, built}
@@ -68,13 +70,17 @@ values_of : (fs : List Field) → HasValues (map kind_of fs) fs
 values_of [] = (tt, refl)
 values_of (f ∷ fs) =
     let v = value_of f in
-    let vs = values_of fs in
-    ((v.0, vs.0), ap (λ (g : Field). g ∷ fs) v.1 ∙ ap (λ (gs : List Field). field_with (kind_of f) v.0 ∷ gs) vs.1)
+    let vs = values_of fs in (
+      (v.0, vs.0),
+      ap (λ (g : Field). g ∷ fs) v.1
+          ∙ ap (λ (gs : List Field). field_with (kind_of f) v.0 ∷ gs) vs.1,
+    )
 
 -- ---- the numbers that are looked at
 
 -- a number is a clipboard's, or it is no clipboard's
-clip_or_none : (n : ℕ) → ((clip : ClipId) × (n ≡ clip_number clip)) ⊎ ((clip : ClipId) → n ≡ clip_number clip → ⊥)
+clip_or_none : (n : ℕ)
+    → ((clip : ClipId) × (n ≡ clip_number clip)) ⊎ ((clip : ClipId) → n ≡ clip_number clip → ⊥)
 clip_or_none zero = inl (clips.Clipboard, refl)
 clip_or_none (suc zero) = inl (clips.Selection, refl)
 clip_or_none (suc (suc n)) = inr above
@@ -84,7 +90,8 @@ clip_or_none (suc (suc n)) = inr above
     above clips.Selection same = omega arith
 
 -- the same of the parts of one
-mark_or_none : (n : ℕ) → ((mark : ClipMark) × (n ≡ mark_number mark)) ⊎ ((mark : ClipMark) → n ≡ mark_number mark → ⊥)
+mark_or_none : (n : ℕ)
+    → ((mark : ClipMark) × (n ≡ mark_number mark)) ⊎ ((mark : ClipMark) → n ≡ mark_number mark → ⊥)
 mark_or_none zero = inr none
   where
     none : (mark : ClipMark) → 0 ≡ mark_number mark → ⊥
@@ -110,18 +117,22 @@ Made c fs = ((m : Msg) × (code_of m ≡ c) × (fields m ≡ fs)) ⊎ ((why : Ba
 made_grab : (clip seq : ℕ) → Made code.Grab (Clip clip ∷ Word seq ∷ [])
 made_grab clip seq =
     elim (clip_or_none clip) [
-      | inl good ↦ inl (msg.Grab good.0 seq, refl, ap (λ (n : ℕ). Clip n ∷ Word seq ∷ []) (sym good.1))
+      | inl good ↦
+          inl (msg.Grab good.0 seq, refl, ap (λ (n : ℕ). Clip n ∷ Word seq ∷ []) (sym good.1))
       | inr none ↦ inr (bad.BadClip 4, grab_misfits clip seq none)
     ]
 
-made_part : (clip seq mark : ℕ) (bytes : List ℕ) → Made code.ClipPart (Clip clip ∷ Word seq ∷ Mark mark ∷ Text bytes ∷ [])
+made_part : (clip seq mark : ℕ) (bytes : List ℕ)
+    → Made code.ClipPart (Clip clip ∷ Word seq ∷ Mark mark ∷ Text bytes ∷ [])
 made_part clip seq mark bytes =
     elim (clip_or_none clip) [
       | inl good ↦ elim (mark_or_none mark) [
         | inl known ↦ inl (
           msg.ClipPart good.0 seq known.0 bytes,
           refl,
-          ap (λ (n : ℕ). Clip n ∷ Word seq ∷ Mark (mark_number known.0) ∷ Text bytes ∷ []) (sym good.1) ∙ ap (λ (n : ℕ). Clip clip ∷ Word seq ∷ Mark n ∷ Text bytes ∷ []) (sym known.1),
+          ap (λ (n : ℕ). Clip n ∷ Word seq ∷ Mark (mark_number known.0) ∷ Text bytes ∷ [])
+              (sym good.1)
+              ∙ ap (λ (n : ℕ). Clip clip ∷ Word seq ∷ Mark n ∷ Text bytes ∷ []) (sym known.1),
         )
         | inr none ↦ inr (bad.BadMark 9, mark_misfits clip seq mark bytes good.0 good.1 none)
       ]
@@ -136,5 +147,6 @@ made c vs = inl (built c (fields_with (kinds c) vs), refl, refl)
 
 pub row_fields : (c : Code) (fs : List Field) → kinds c ≡ map kind_of fs → Made c fs
 row_fields c fs row =
-    let has : HasValues (kinds c) fs = subst (λ (ks : List Kind). HasValues ks fs) (sym row) (values_of fs) in
+    let has : HasValues (kinds c) fs =
+    subst (λ (ks : List Kind). HasValues ks fs) (sym row) (values_of fs) in
     subst (Made c) (sym has.1) (made c has.0)

@@ -1,5 +1,6 @@
 -- The verdict on a body, as an answer: the message that it spells, or why it spells none.
-use Rattle.std.specs.Prelude.{ℕ, ◌-◌, Bool, true, false, List, [], ◌∷◌, length, drop, position, Option, Some, None, Result, Ok, Err, if◌then◌else◌}
+use Rattle.std.specs.Prelude.{ℕ, ◌-◌, Bool, true, false, List, [], ◌∷◌, length, drop, position}
+use Rattle.std.specs.Prelude.{Option, Some, None, Result, Ok, Err, if◌then◌else◌}
 use Rattle.std.specs.Option.{option_map, option_or}
 use Rattle.message_codec.specs.declared.messages.End.{End}
 use Rattle.message_codec.specs.declared.messages.End.TheVariants as ends
@@ -29,8 +30,10 @@ unless_fault (Some why) m = Err why
 -- by what was read of the fields, and what is left after them
 abbrev pub fields_verdict : Code → List ℕ → Read (List Field) → Result Msg BadBody
 fields_verdict c body (Err left) = Err (bad.Short (length body - left))
-fields_verdict c body (Ok (fs, byte ∷ left)) = Err (bad.Trailing (length body - length (byte ∷ left)))
-fields_verdict c body (Ok (fs, [])) = unless_fault (option_or (clip_fault c fs) (mark_fault c fs)) (built c fs)
+fields_verdict c body (Ok (fs, byte ∷ left)) =
+    Err (bad.Trailing (length body - length (byte ∷ left)))
+fields_verdict c body (Ok (fs, [])) =
+    unless_fault (option_or (clip_fault c fs) (mark_fault c fs)) (built c fs)
 
 abbrev pub sends : Sender → End → Bool
 sends server ends.Server = true
@@ -42,7 +45,9 @@ sends both from = true
 abbrev pub code_verdict : End → List ℕ → Option Code → Result Msg BadBody
 code_verdict from body None = Err bad.UnknownCode
 code_verdict from body (Some c) =
-    if sends (row c).sender from then fields_verdict c body (read_fields (kinds c) (drop (length (text c)) body)) else Err bad.WrongEnd
+    if sends (row c).sender from
+    then fields_verdict c body (read_fields (kinds c) (drop (length (text c)) body))
+    else Err bad.WrongEnd
 
 -- of a body that this end sent
 unfoldable pub body_verdict : End → List ℕ → Result Msg BadBody

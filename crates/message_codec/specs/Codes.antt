@@ -14,7 +14,12 @@ hello_of ends.Client = code.HelloBack
 
 -- the codes of four letters, in the table's order
 abbrev pub four_letters : List Code
-four_letters = code.QueryInfo ∷ code.InfoAck ∷ code.ResetOptions ∷ code.Bye ∷ code.Enter ∷ code.Leave ∷ code.Saver ∷ code.SetOptions ∷ code.KeyDown ∷ code.KeyRepeat ∷ code.KeyUp ∷ code.ButtonDown ∷ code.ButtonUp ∷ code.MoveTo ∷ code.MoveBy ∷ code.Wheel ∷ code.BadVersion ∷ code.Busy ∷ code.Unknown ∷ code.Malformed ∷ code.Noop ∷ code.Info ∷ code.Alive ∷ code.Grab ∷ code.ClipPart ∷ code.FilePart ∷ code.DragInfo ∷ []
+four_letters =
+    code.QueryInfo ∷ code.InfoAck ∷ code.ResetOptions ∷ code.Bye ∷ code.Enter ∷ code.Leave
+    ∷ code.Saver ∷ code.SetOptions ∷ code.KeyDown ∷ code.KeyRepeat ∷ code.KeyUp ∷ code.ButtonDown
+    ∷ code.ButtonUp ∷ code.MoveTo ∷ code.MoveBy ∷ code.Wheel ∷ code.BadVersion ∷ code.Busy
+    ∷ code.Unknown ∷ code.Malformed ∷ code.Noop ∷ code.Info ∷ code.Alive ∷ code.Grab ∷ code.ClipPart
+    ∷ code.FilePart ∷ code.DragInfo ∷ []
 
 -- the first of these codes that bytes begin with
 abbrev pub first_code : List Code → List ℕ → Option Code
@@ -22,4 +27,6 @@ first_code codes bytes = find (λ c. starts_with nat_eq bytes (text c)) codes
 
 -- the code that a body from that end begins with
 unfoldable pub code_at : End → List ℕ → Option Code
-code_at from bytes = if starts_with nat_eq bytes (text code.Hello) then Some (hello_of from) else first_code four_letters bytes
+code_at from bytes =
+    if starts_with nat_eq bytes (text code.Hello) then Some (hello_of from)
+    else first_code four_letters bytes

@@ -18,14 +18,16 @@ draft_code (draft.Ready m) = code_of m
 
 abbrev pub draft_fields : Draft → List Field
 draft_fields (draft.Grab clip seq) = Clip clip ∷ Word seq ∷ []
-draft_fields (draft.ClipPart clip seq mark bytes) = Clip clip ∷ Word seq ∷ Mark mark ∷ Text bytes ∷ []
+draft_fields (draft.ClipPart clip seq mark bytes) =
+    Clip clip ∷ Word seq ∷ Mark mark ∷ Text bytes ∷ []
 draft_fields (draft.Ready m) = fields m
 
 -- the message has the draft's code and fields
 abbrev pub IsDraftOf : Msg → Draft → Type 0
 IsDraftOf m d = (code_of m ≡ draft_code d) × (fields m ≡ draft_fields d)
 
--- the message that a function returned, and the bytes after it, are what reading gives; memory is taken for a row with a string or a list alone
+-- the message that a function returned, and the bytes after it, are what reading gives; memory is
+-- taken for a row with a string or a list alone
 abbrev pub GivesMsg : Code → Result (Msg × Bor (List ℕ)) ReadError → Read (List Field) → Type 0
 GivesMsg c (Ok x) read = (code_of x.0 ≡ c) × (read ≡ Ok (fields x.0, x.1.now))
 GivesMsg c (Err e) read = Fails (has_list c) e read

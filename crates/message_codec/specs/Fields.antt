@@ -26,7 +26,8 @@ kind_of (Mark n) = kind.mark
 kind_of (Text bytes) = kind.text
 kind_of (Words ns) = kind.words
 
--- integers are big-endian, and signed ones in two's complement; a string has its length before it, and a list its count
+-- integers are big-endian, and signed ones in two's complement; a string has its length before it,
+-- and a list its count
 abbrev pub spelled : Field → List ℕ
 spelled (Byte n) = n ∷ []
 spelled (Half n) = to_be_bytes w16 n

@@ -1,5 +1,7 @@
--- What the bytes of a stream come to, byte by byte: its messages, and the first bad frame after them or a rest.
-use Rattle.std.specs.Prelude.{◌≡◌, ℕ, ◌+◌, Bool, true, false, ◌==◌, nat_lt, List, [], ◌∷◌, ◌++◌, length, drop, fold, Option, Some, None, Result, Ok, Err}
+-- What the bytes of a stream come to, byte by byte: its messages, and the first bad frame after
+-- them or a rest.
+use Rattle.std.specs.Prelude.{◌≡◌, ℕ, ◌+◌, Bool, true, false, ◌==◌, nat_lt, List, [], ◌∷◌, ◌++◌}
+use Rattle.std.specs.Prelude.{length, drop, fold, Option, Some, None, Result, Ok, Err}
 use Rattle.share_base.specs.declared.reason.Reason.{Reason}
 use Rattle.share_base.specs.declared.reason.Reason.TheVariants as reason
 use Rattle.wire_frames.specs.Framing.{length_field}
@@ -25,7 +27,13 @@ turns_bad why box = record box { bad = Some why }
 
 -- the rest is the frame of a message, which may stand there or may not
 abbrev pub takes_if : Bool → Msg → Inbox → Inbox
-takes_if true m box = record { messages = box.messages ++ m ∷ []; place = box.place + length box.rest; rest = []; bad = None }
+takes_if true m box =
+    record {
+      messages = box.messages ++ m ∷ [];
+      place = box.place + length box.rest;
+      rest = [];
+      bad = None;
+    }
 takes_if false m box = turns_bad reason.State box
 
 abbrev pub takes_body : Reader → Result Msg BadBody → Inbox → Inbox
@@ -45,7 +53,8 @@ limits_if reader false box = opens_if reader (length box.rest == 4 + length_fiel
 -- the length is not whole yet, or it is
 abbrev pub looks_if : Reader → Bool → Inbox → Inbox
 looks_if reader true box = box
-looks_if reader false box = limits_if reader (nat_lt (reader.limit box.messages) (length_field box.rest)) box
+looks_if reader false box =
+    limits_if reader (nat_lt (reader.limit box.messages) (length_field box.rest)) box
 
 -- after a bad frame nothing is looked at
 abbrev pub looks : Reader → Option Reason → Inbox → Inbox
@@ -59,7 +68,8 @@ abbrev pub inbox : Reader → List ℕ → Inbox
 inbox reader bytes = fold (with_byte reader) empty_inbox bytes
 
 -- the inbox says what the verdict says
-pub record HasVerdict {reader : Reader} {stream : List ℕ} (v : Verdict reader stream) (box : Inbox) : Type 0 where
+pub record HasVerdict {reader : Reader} {stream : List ℕ} (v : Verdict reader stream) (box : Inbox)
+    : Type 0 where
   pub messages_are : box.messages ≡ v.messages
   pub rest_is : box.rest ≡ v.rest
   pub place_is : box.place ≡ v.place

@@ -43,18 +43,27 @@ field_at fs i = slice_index_or fs i (Byte 0)
 -- the message of a code and fields
 unfoldable pub built : Code → List Field → Msg
 built code.Hello fs = msg.Hello (the_number (field_at fs 0)) (the_number (field_at fs 1))
-built code.HelloBack fs = msg.HelloBack (the_number (field_at fs 0)) (the_number (field_at fs 1)) (the_list (field_at fs 2))
+built code.HelloBack fs =
+    msg.HelloBack (the_number (field_at fs 0)) (the_number (field_at fs 1))
+    (the_list (field_at fs 2))
 built code.QueryInfo fs = msg.QueryInfo
 built code.InfoAck fs = msg.InfoAck
 built code.ResetOptions fs = msg.ResetOptions
 built code.Bye fs = msg.Bye
-built code.Enter fs = msg.Enter (the_signed (field_at fs 0)) (the_signed (field_at fs 1)) (the_number (field_at fs 2)) (the_number (field_at fs 3))
+built code.Enter fs =
+    msg.Enter (the_signed (field_at fs 0)) (the_signed (field_at fs 1)) (the_number (field_at fs 2))
+    (the_number (field_at fs 3))
 built code.Leave fs = msg.Leave
 built code.Saver fs = msg.Saver (the_number (field_at fs 0))
 built code.SetOptions fs = msg.SetOptions (the_list (field_at fs 0))
-built code.KeyDown fs = msg.KeyDown (the_number (field_at fs 0)) (the_number (field_at fs 1)) (the_number (field_at fs 2))
-built code.KeyRepeat fs = msg.KeyRepeat (the_number (field_at fs 0)) (the_number (field_at fs 1)) (the_number (field_at fs 2)) (the_number (field_at fs 3))
-built code.KeyUp fs = msg.KeyUp (the_number (field_at fs 0)) (the_number (field_at fs 1)) (the_number (field_at fs 2))
+built code.KeyDown fs =
+    msg.KeyDown (the_number (field_at fs 0)) (the_number (field_at fs 1))
+    (the_number (field_at fs 2))
+built code.KeyRepeat fs =
+    msg.KeyRepeat (the_number (field_at fs 0)) (the_number (field_at fs 1))
+    (the_number (field_at fs 2)) (the_number (field_at fs 3))
+built code.KeyUp fs =
+    msg.KeyUp (the_number (field_at fs 0)) (the_number (field_at fs 1)) (the_number (field_at fs 2))
 built code.ButtonDown fs = msg.ButtonDown (the_number (field_at fs 0))
 built code.ButtonUp fs = msg.ButtonUp (the_number (field_at fs 0))
 built code.MoveTo fs = msg.MoveTo (the_signed (field_at fs 0)) (the_signed (field_at fs 1))
@@ -65,9 +74,14 @@ built code.Busy fs = msg.Busy
 built code.Unknown fs = msg.Unknown
 built code.Malformed fs = msg.Malformed
 built code.Noop fs = msg.Noop
-built code.Info fs = msg.Info (the_signed (field_at fs 0)) (the_signed (field_at fs 1)) (the_number (field_at fs 2)) (the_number (field_at fs 3)) (the_number (field_at fs 4)) (the_signed (field_at fs 5)) (the_signed (field_at fs 6))
+built code.Info fs =
+    msg.Info (the_signed (field_at fs 0)) (the_signed (field_at fs 1)) (the_number (field_at fs 2))
+    (the_number (field_at fs 3)) (the_number (field_at fs 4)) (the_signed (field_at fs 5))
+    (the_signed (field_at fs 6))
 built code.Alive fs = msg.Alive
 built code.Grab fs = msg.Grab (clip_of (the_number (field_at fs 0))) (the_number (field_at fs 1))
-built code.ClipPart fs = msg.ClipPart (clip_of (the_number (field_at fs 0))) (the_number (field_at fs 1)) (mark_of (the_number (field_at fs 2))) (the_list (field_at fs 3))
+built code.ClipPart fs =
+    msg.ClipPart (clip_of (the_number (field_at fs 0))) (the_number (field_at fs 1))
+    (mark_of (the_number (field_at fs 2))) (the_list (field_at fs 3))
 built code.FilePart fs = msg.FilePart (the_number (field_at fs 0)) (the_list (field_at fs 1))
 built code.DragInfo fs = msg.DragInfo (the_number (field_at fs 0)) (the_list (field_at fs 1))

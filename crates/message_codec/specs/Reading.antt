@@ -1,5 +1,7 @@
--- Reading fields from left to right. Where a part of one doesn't fit, the answer is how many bytes were left there.
-use Rattle.std.specs.Prelude.{◌≡◌, ℕ, ℤ, zero, suc, Bool, true, List, [], ◌∷◌, length, take, drop, Result, Ok, Err, nat_lt, if◌then◌else◌}
+-- Reading fields from left to right. Where a part of one doesn't fit, the answer is how many bytes
+-- were left there.
+use Rattle.std.specs.Prelude.{◌≡◌, ℕ, ℤ, zero, suc, Bool, true, List, [], ◌∷◌, length, take, drop}
+use Rattle.std.specs.Prelude.{Result, Ok, Err, nat_lt, if◌then◌else◌}
 use Rattle.std.specs.Int.{Width, w16, w32, byte_len, from_be_bytes, cast_signed}
 use Rattle.message_codec.specs.declared.reading.ReadError.{ReadError}
 use Rattle.message_codec.specs.declared.reading.ReadError.TheVariants as errors
@@ -16,7 +18,8 @@ abbrev pub ◌>>=◌ : {A B : Type 0} → Result A ℕ → (A → Result B ℕ) 
 (Ok x) >>= f = f x
 (Err left) >>= f = Err left
 
--- why a function failed: reading fails with so many bytes left, or memory could not be had, where it takes any
+-- why a function failed: reading fails with so many bytes left, or memory could not be had, where
+-- it takes any
 abbrev pub Fails : {Y : Type 0} → Bool → ReadError → Result Y ℕ → Type 0
 Fails takes_memory (errors.Short left) read = read ≡ Err left
 Fails takes_memory errors.Memory read = takes_memory ≡ true
@@ -27,7 +30,9 @@ Gives takes_memory view (Ok x) read = read ≡ Ok (view x)
 Gives takes_memory view (Err e) read = Fails takes_memory e read
 
 abbrev pub number_at : Width → List ℕ → Read ℕ
-number_at w bytes = if nat_lt (length bytes) (byte_len w) then Err (length bytes) else Ok (from_be_bytes w (take (byte_len w) bytes), drop (byte_len w) bytes)
+number_at w bytes =
+    if nat_lt (length bytes) (byte_len w) then Err (length bytes)
+    else Ok (from_be_bytes w (take (byte_len w) bytes), drop (byte_len w) bytes)
 
 abbrev pub signed_at : List ℕ → Read ℤ
 signed_at bytes = do
@@ -58,7 +63,8 @@ read_field kind.word bytes = number_at w32 bytes >>= λ x. Ok (Word x.0, x.1)
 read_field kind.clip bytes = byte_at bytes >>= λ x. Ok (Clip x.0, x.1)
 read_field kind.mark bytes = byte_at bytes >>= λ x. Ok (Mark x.0, x.1)
 read_field kind.text bytes = text_at bytes >>= λ x. Ok (Text x.0, x.1)
-read_field kind.words bytes = number_at w32 bytes >>= λ n. words_at n.0 n.1 >>= λ x. Ok (Words x.0, x.1)
+read_field kind.words bytes =
+    number_at w32 bytes >>= λ n. words_at n.0 n.1 >>= λ x. Ok (Words x.0, x.1)
 
 unfoldable pub read_fields : List Kind → List ℕ → Read (List Field)
 read_fields [] bytes = Ok ([], bytes)

@@ -22,7 +22,8 @@ frame_of m = frame (body_of m)
 abbrev pub frames_of : List Msg → List ℕ
 frames_of messages = flat_map frame_of messages
 
--- who reads a stream: which end sends it, how long a body may be after these messages, and whether a message may stand after them
+-- who reads a stream: which end sends it, how long a body may be after these messages, and whether
+-- a message may stand after them
 pub record Reader : Type 0 where
   pub from : End
   pub limit : List Msg → ℕ
@@ -31,7 +32,13 @@ pub record Reader : Type 0 where
 
 -- one for which every message of that end may stand anywhere
 abbrev pub plain : End → Reader
-plain from = record { from = from; limit = λ before. body_limit; limited = λ before. lit≤ tt; takes = λ before m. true }
+plain from =
+    record {
+      from = from;
+      limit = λ before. body_limit;
+      limited = λ before. lit≤ tt;
+      takes = λ before m. true;
+    }
 
 -- a message that may stand after those
 pub record IsGood (reader : Reader) (before : List Msg) (m : Msg) : Type 0 where

@@ -34,12 +34,14 @@ row code.QueryInfo = row_of (codes "QINF") server []
 row code.InfoAck = row_of (codes "CIAK") server []
 row code.ResetOptions = row_of (codes "CROP") server []
 row code.Bye = row_of (codes "CBYE") server []
-row code.Enter = row_of (codes "CINN") server (kind.signed ∷ kind.signed ∷ kind.word ∷ kind.half ∷ [])
+row code.Enter =
+    row_of (codes "CINN") server (kind.signed ∷ kind.signed ∷ kind.word ∷ kind.half ∷ [])
 row code.Leave = row_of (codes "COUT") server []
 row code.Saver = row_of (codes "CSEC") server (kind.byte ∷ [])
 row code.SetOptions = row_of (codes "DSOP") server (kind.words ∷ [])
 row code.KeyDown = row_of (codes "DKDN") server (kind.half ∷ kind.half ∷ kind.half ∷ [])
-row code.KeyRepeat = row_of (codes "DKRP") server (kind.half ∷ kind.half ∷ kind.half ∷ kind.half ∷ [])
+row code.KeyRepeat =
+    row_of (codes "DKRP") server (kind.half ∷ kind.half ∷ kind.half ∷ kind.half ∷ [])
 row code.KeyUp = row_of (codes "DKUP") server (kind.half ∷ kind.half ∷ kind.half ∷ [])
 row code.ButtonDown = row_of (codes "DMDN") server (kind.byte ∷ [])
 row code.ButtonUp = row_of (codes "DMUP") server (kind.byte ∷ [])
@@ -51,7 +53,9 @@ row code.Busy = row_of (codes "EBSY") server []
 row code.Unknown = row_of (codes "EUNK") server []
 row code.Malformed = row_of (codes "EBAD") server []
 row code.Noop = row_of (codes "CNOP") client []
-row code.Info = row_of (codes "DINF") client (kind.signed ∷ kind.signed ∷ kind.half ∷ kind.half ∷ kind.half ∷ kind.signed ∷ kind.signed ∷ [])
+row code.Info =
+    row_of (codes "DINF") client
+    (kind.signed ∷ kind.signed ∷ kind.half ∷ kind.half ∷ kind.half ∷ kind.signed ∷ kind.signed ∷ [])
 row code.Alive = row_of (codes "CALV") both []
 row code.Grab = row_of (codes "CCLP") both (kind.clip ∷ kind.word ∷ [])
 row code.ClipPart = row_of (codes "DCLP") both (kind.clip ∷ kind.word ∷ kind.mark ∷ kind.text ∷ [])
@@ -71,7 +75,8 @@ parts msg.Leave = (code.Leave, [])
 parts (msg.Saver on) = (code.Saver, Byte on ∷ [])
 parts (msg.SetOptions words) = (code.SetOptions, Words words ∷ [])
 parts (msg.KeyDown id mask button) = (code.KeyDown, Half id ∷ Half mask ∷ Half button ∷ [])
-parts (msg.KeyRepeat id mask count button) = (code.KeyRepeat, Half id ∷ Half mask ∷ Half count ∷ Half button ∷ [])
+parts (msg.KeyRepeat id mask count button) =
+    (code.KeyRepeat, Half id ∷ Half mask ∷ Half count ∷ Half button ∷ [])
 parts (msg.KeyUp id mask button) = (code.KeyUp, Half id ∷ Half mask ∷ Half button ∷ [])
 parts (msg.ButtonDown b) = (code.ButtonDown, Byte b ∷ [])
 parts (msg.ButtonUp b) = (code.ButtonUp, Byte b ∷ [])
@@ -83,10 +88,12 @@ parts msg.Busy = (code.Busy, [])
 parts msg.Unknown = (code.Unknown, [])
 parts msg.Malformed = (code.Malformed, [])
 parts msg.Noop = (code.Noop, [])
-parts (msg.Info x y w h warp mx my) = (code.Info, Signed x ∷ Signed y ∷ Half w ∷ Half h ∷ Half warp ∷ Signed mx ∷ Signed my ∷ [])
+parts (msg.Info x y w h warp mx my) =
+    (code.Info, Signed x ∷ Signed y ∷ Half w ∷ Half h ∷ Half warp ∷ Signed mx ∷ Signed my ∷ [])
 parts msg.Alive = (code.Alive, [])
 parts (msg.Grab clip seq) = (code.Grab, Clip (clip_number clip) ∷ Word seq ∷ [])
-parts (msg.ClipPart clip seq mark bytes) = (code.ClipPart, Clip (clip_number clip) ∷ Word seq ∷ Mark (mark_number mark) ∷ Text bytes ∷ [])
+parts (msg.ClipPart clip seq mark bytes) =
+    (code.ClipPart, Clip (clip_number clip) ∷ Word seq ∷ Mark (mark_number mark) ∷ Text bytes ∷ [])
 parts (msg.FilePart mark bytes) = (code.FilePart, Byte mark ∷ Text bytes ∷ [])
 parts (msg.DragInfo count bytes) = (code.DragInfo, Half count ∷ Text bytes ∷ [])
 

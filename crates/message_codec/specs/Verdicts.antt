@@ -11,7 +11,8 @@ use Rattle.message_codec.specs.Reasons.{reason_of}
 use Rattle.message_codec.specs.Streams.{frame_of, frames_of, Reader, AllGood}
 
 -- a whole frame within the limit stands at the front, and its body is refused
-pub record IsRefused (reader : Reader) (before : List Msg) (why : Reason) (bytes : List ℕ) : Type 0 where
+pub record IsRefused (reader : Reader) (before : List Msg) (why : Reason) (bytes : List ℕ)
+    : Type 0 where
   pub body : List ℕ
   pub more : List ℕ
   pub front : bytes ≡ frame body ++ more
@@ -36,12 +37,14 @@ IsBad reader before reason.State bytes = IsMisplaced reader before bytes
 IsBad reader before reason.Cut bytes = ⊥
 IsBad reader before why bytes = IsRefused reader before why bytes
 
--- after those messages, less than a frame is left, or a frame that is bad for that reason stands at the front
+-- after those messages, less than a frame is left, or a frame that is bad for that reason stands at
+-- the front
 abbrev pub Rests : Reader → List Msg → Option Reason → List ℕ → Type 0
 Rests reader before None bytes = IsPartial (reader.limit before) bytes
 Rests reader before (Some why) bytes = IsBad reader before why bytes
 
--- the stream is the frames of these messages, each where it may stand, and then a rest; it stands at that place, and may be bad
+-- the stream is the frames of these messages, each where it may stand, and then a rest; it stands
+-- at that place, and may be bad
 pub record Verdict (reader : Reader) (stream : List ℕ) : Type 0 where
   pub messages : List Msg
   pub rest : List ℕ

@@ -13,8 +13,8 @@ use crate::reading::ReadError;
 use crate::rows::draft_at;
 use std::alloc::Global;
 
-/// Decodes the body of a message sent by `from`, of at most `BODY_LIMIT` bytes. A string or a list is
-/// copied into memory from `alloc`.
+/// Decodes the body of a message sent by `from`, of at most `BODY_LIMIT` bytes. A string or a list
+/// is copied into memory from `alloc`.
 ///
 /// Answers `Bad` if and only if the body spells no message of that end, with the first fault in the
 /// order of `BadBody`. Answers `OutOfMemory` only for a message with a string or a list: every key,

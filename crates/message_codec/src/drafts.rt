@@ -28,7 +28,8 @@ pub enum Draft {
     Ready(Msg),
 }
 
-/// The message of a draft. A clipboard above 1 is refused first, and then a mark other than 1, 2 and 3.
+/// The message of a draft. A clipboard above 1 is refused first, and then a mark other than 1, 2
+/// and 3.
 pub fn finish(draft: Draft) -> Result<Msg, BadBody>
     ensures ok { IfOk result (λ m. IsDraftOf m draft) }
     ensures err { IfErr result (λ bad. Misfits bad (draft_code draft) (draft_fields draft)) }

@@ -6,8 +6,8 @@ ghost use Rattle.message_codec.specs.Reasons.{reason_of};
 use share_base::Reason;
 use thiserror::Error;
 
-/// What is wrong with a body. The first of these that is so is answered. A place is an offset in the
-/// body, in bytes.
+/// What is wrong with a body. The first of these that is so is answered. A place is an offset in
+/// the body, in bytes.
 #[derive(Clone, Copy, Debug, PartialEq, Eq, Error)]
 pub enum BadBody {
     /// It begins with neither `Synergy` nor a code of the table.
@@ -16,8 +16,8 @@ pub enum BadBody {
     /// The other end alone sends that message.
     #[error("the other end sends that message")]
     WrongEnd,
-    /// A part of a field is longer than what is left. An integer is one part, a string is its length
-    /// and its bytes, and a list is its count and each of its integers.
+    /// A part of a field is longer than what is left. An integer is one part, a string is its
+    /// length and its bytes, and a list is its count and each of its integers.
     #[error("a field ends too early at {at}")]
     Short {
         /// The offset of that part.

@@ -32,8 +32,8 @@ pub fn one_refusal()
 {}
 
 /// By its two clauses `decode` answers, for a body that spells a message, that message, or
-/// `OutOfMemory` where it has a string or a list. So what `encode` appends is decoded as the message
-/// that it was made from.
+/// `OutOfMemory` where it has a string or a list. So what `encode` appends is decoded as the
+/// message that it was made from.
 pub fn spelled_is_decoded()
     ensures { (from : End) (m : Msg) (body : List ℕ) (answer : Result Msg DecodeFault)
         → Spells from m body → IfOk answer (λ n. Spells from n body)
@@ -51,17 +51,18 @@ pub fn each_has_a_verdict()
     ensures { (reader : Reader) (stream : List ℕ) → AreBytes stream → Verdict reader stream }
 {}
 
-/// A reader comes to one verdict on a stream: the same messages, the same rest at the same place, and
-/// the same reason for which it is bad, if it is.
+/// A reader comes to one verdict on a stream: the same messages, the same rest at the same place,
+/// and the same reason for which it is bad, if it is.
 pub fn one_verdict()
     ensures { (reader : Reader) (stream : List ℕ) (a b : Verdict reader stream)
         → (a.messages ≡ b.messages) × (a.rest ≡ b.rest) × (a.place ≡ b.place) × (a.bad ≡ b.bad) }
 {}
 
-/// The verdict that is computed on a body is right: the message that it spells, or the fault for which it
-/// is refused.
+/// The verdict that is computed on a body is right: the message that it spells, or the fault for
+/// which it is refused.
 pub fn body_is_judged()
-    ensures { (from : End) (body : List ℕ) → AreBytes body → IsVerdictOn from body (body_verdict from body) }
+    ensures { (from : End) (body : List ℕ) → AreBytes body
+        → IsVerdictOn from body (body_verdict from body) }
 {}
 
 /// What is computed of a stream, byte by byte, is the one verdict on it.

@@ -1,8 +1,8 @@
 //! Messages, and the bodies of frames that spell them (protocol reference, message list).
 //!
-//! It owns the table of messages (`specs/Table.antt`), the rules of fields (`specs/Fields.antt`), and
-//! what it is for a stream to be made of messages (`specs/Streams.antt`). It may know frames, but not
-//! where bytes come from or what becomes of a message.
+//! It owns the table of messages (`specs/Table.antt`), the rules of fields (`specs/Fields.antt`),
+//! and what it is for a stream to be made of messages (`specs/Streams.antt`). It may know frames,
+//! but not where bytes come from or what becomes of a message.
 #![tactic(auto)]
 
 mod clip_mark;

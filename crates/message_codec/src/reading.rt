@@ -2,7 +2,8 @@
 
 ghost use Rattle.std.specs.Prelude.{◌≡◌, List, length, Ok, true, false};
 ghost use Rattle.std.specs.Int.{w16, w32};
-ghost use Rattle.message_codec.specs.Reading.{Gives, number_at, signed_at, byte_at, text_at, words_at};
+ghost use Rattle.message_codec.specs.Reading.{Gives, number_at, signed_at, byte_at, text_at};
+ghost use Rattle.message_codec.specs.Reading.{words_at};
 
 use share_base::{Octets, OutOfMemory, Words32};
 use std::alloc::Global;
@@ -84,8 +85,8 @@ pub fn octets_at(alloc: Global, bytes: &[u8]) -> Result<(Octets, &[u8]), ReadErr
     Ok((octets, rest))
 }
 
-/// `count` numbers of four bytes, and the bytes after them. Memory is taken for each number as it is
-/// read, so a count without its numbers takes none.
+/// `count` numbers of four bytes, and the bytes after them. Memory is taken for each number as it
+/// is read, so a count without its numbers takes none.
 pub fn words_of(alloc: Global, count: u32, bytes: &[u8]) -> Result<(Words32, &[u8]), ReadError>
     ensures { Gives true (λ x. (x.0, x.1.now)) result (words_at count bytes.now) }
 {

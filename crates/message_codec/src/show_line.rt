@@ -92,9 +92,9 @@ fn put_line(out: &mut Octets, msg: &Msg) -> Result<(), OutOfMemory>
     Ok(())
 }
 
-/// Appends the line that a message is shown as, without a newline: its code, and then each field after
-/// one blank. Integers are decimal, strings and names pairs of hexadecimal digits, or `-` where they
-/// are empty. A list has its count first. On `OutOfMemory` `out` is unchanged.
+/// Appends the line that a message is shown as, without a newline: its code, and then each field
+/// after one blank. Integers are decimal, strings and names pairs of hexadecimal digits, or `-`
+/// where they are empty. A list has its count first. On `OutOfMemory` `out` is unchanged.
 pub fn show(msg: &Msg, out: &mut Octets) -> Result<(), OutOfMemory>
     ensures ok { OnOk result (out.new ≡ out.old ++ show_line msg.now) }
     ensures err { OnErr result (out.new ≡ out.old) }

@@ -3,7 +3,8 @@ use share_base::Octets;
 use std::alloc::Global;
 use std::test::*;
 
-/// Who sends a body, the body, where the parts of its fields begin, and the line that it is shown as.
+/// Who sends a body, the body, where the parts of its fields begin, and the line that it is shown
+/// as.
 type Row = (End, &'static [u8], &'static [u32], &'static [u8]);
 
 /// Every message, by the letters and the fields of the protocol.
@@ -156,8 +157,8 @@ const FAULTS: [(End, &[u8], BadBody); 9] = [
     ),
 ];
 
-/// The fault of a body that was cut after so many bytes: its code is not there, or the last part that
-/// begins there is short.
+/// The fault of a body that was cut after that many bytes: its code is not there, or the last part
+/// that begins there is short.
 fn fault_of_cut(parts: &[u32], cut: u32) -> BadBody {
     let mut fault = BadBody::UnknownCode;
     for part in parts {
@@ -210,7 +211,7 @@ fn the_first_fault_is_answered(rt: HostRuntime) {
     }
 }
 
-/// A body that ends with a count and then so many bytes.
+/// A body that ends with a count and then that many bytes.
 fn long_body(alloc: Global, front: &[u8], count: u32, bytes: usize) -> Result<Octets, Fail> {
     let mut body = Octets::new(alloc);
     body.extend(front)?;

@@ -1,5 +1,6 @@
 -- Messages up to the first that ends something, and how a stream ends it.
-use Rattle.std.specs.Prelude.{◌≡◌, ℕ, List, [], ◌∷◌, ◌++◌, length, Option, None, is_some, if◌then◌else◌}
+use Rattle.std.specs.Prelude.{◌≡◌, ℕ, List, [], ◌∷◌, ◌++◌, length, Option, None, is_some}
+use Rattle.std.specs.Prelude.{if◌then◌else◌}
 use Rattle.std.specs.Option.{option_map, option_or}
 use Rattle.message_codec.specs.declared.messages.Msg.{Msg}
 use Rattle.message_codec.specs.Streams.{frames_of, Reader}
@@ -23,8 +24,13 @@ pub data Outcome (A : Type 0) : Type 0 where
   Failed : BadFrame → Outcome A
 
 -- how the stream ends it: by the first message that does, else by the bad frame
-abbrev pub outcome : {A : Type 0} {reader : Reader} {stream : List ℕ} → (Msg → Option A) → Verdict reader stream → Option (Outcome A)
-outcome ends verdict = option_or (option_map (Stopped (length (frames_of (before_end ends verdict.messages)))) (ending ends verdict.messages)) (option_map Failed (bad_frame verdict))
+abbrev pub outcome : {A : Type 0} {reader : Reader} {stream : List ℕ} → (Msg → Option A)
+    → Verdict reader stream → Option (Outcome A)
+outcome ends verdict =
+    option_or
+    (option_map (Stopped (length (frames_of (before_end ends verdict.messages))))
+    (ending ends verdict.messages))
+    (option_map Failed (bad_frame verdict))
 
 -- the first messages of a list
 abbrev pub IsFront : List Msg → List Msg → Type 0

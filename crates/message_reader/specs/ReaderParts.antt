@@ -5,7 +5,8 @@ use Rattle.wire_frames.specs.Framers.{FramerParts}
 use Rattle.message_reader.specs.declared.reader.BadFrame.{BadFrame}
 use Rattle.message_reader.specs.declared.role.Role.{Role}
 
--- its role, how many bytes were fed, whether a message was given, its framer, and the bad frame that it met
+-- its role, how many bytes were fed, whether a message was given, its framer, and the bad frame
+-- that it met
 pub record ReaderParts : Type 0 where
   pub role : Role
   pub total : ℕ
@@ -15,4 +16,11 @@ pub record ReaderParts : Type 0 where
 
 -- it met a bad frame at that place
 abbrev pub with_bad : ReaderParts → ℕ → Reason → ReaderParts
-with_bad r place reason = record { role = r.role; total = r.total; begun = r.begun; framer = r.framer; bad = Some (record { place = place; reason = reason }) }
+with_bad r place reason =
+    record {
+      role = r.role;
+      total = r.total;
+      begun = r.begun;
+      framer = r.framer;
+      bad = Some (record { place = place; reason = reason });
+    }

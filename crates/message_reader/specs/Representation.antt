@@ -10,7 +10,8 @@ use Rattle.message_reader.specs.ReaderParts.{ReaderParts}
 -- it keeps the rest after those messages; or that rest begins with the bad frame
 abbrev pub StandsAt : ReaderParts → Option BadFrame → List Msg → List ℕ → Type 0
 StandsAt r None messages rest = r.framer.rest ≡ rest
-StandsAt r (Some bad) messages rest = (bad.place ≡ length (frames_of messages)) × IsBad (reader_of r.role) messages bad.reason rest
+StandsAt r (Some bad) messages rest =
+    (bad.place ≡ length (frames_of messages)) × IsBad (reader_of r.role) messages bad.reason rest
 
 -- the reader was fed this stream, and gave these messages of it
 pub record Represents (r : ReaderParts) (stream : List ℕ) (messages : List Msg) : Type 0 where
@@ -28,11 +29,14 @@ pub record IsOpen (r : ReaderParts) (stream : List ℕ) (messages : List Msg) : 
   pub represents : Represents r stream messages
   pub fine : r.bad ≡ None
 
--- the offset of the first byte that is part of no message given; none where there is no such byte, or after a bad frame
+-- the offset of the first byte that is part of no message given; none where there is no such byte,
+-- or after a bad frame
 abbrev pub pending_at : Option BadFrame → ℕ → List ℕ → Option ℕ
 pending_at (Some bad) place rest = None
 pending_at None place [] = None
 pending_at None place (byte ∷ bytes) = Some place
 
 abbrev pub IsPending : ReaderParts → Option ℕ → Type 0
-IsPending r found = (stream : List ℕ) (messages : List Msg) → (h : Represents r stream messages) → found ≡ pending_at r.bad (length (frames_of messages)) h.rest
+IsPending r found =
+    (stream : List ℕ) (messages : List Msg) → (h : Represents r stream messages)
+    → found ≡ pending_at r.bad (length (frames_of messages)) h.rest

@@ -64,8 +64,10 @@ reader_of (role.Observer end) = plain end
 
 -- so many bytes may the next body have, where messages came before or not
 abbrev pub IsLimit : Role → Bool → ℕ → Type 0
-IsLimit r begun limit = (before : List Msg) → begun ≡ has_begun before → limit ≡ (reader_of r).limit before
+IsLimit r begun limit =
+    (before : List Msg) → begun ≡ has_begun before → limit ≡ (reader_of r).limit before
 
 -- whether the message may stand next
 abbrev pub MayStand : Role → Bool → Msg → Bool → Type 0
-MayStand r begun m answer = (before : List Msg) → begun ≡ has_begun before → answer ≡ (reader_of r).takes before m
+MayStand r begun m answer =
+    (before : List Msg) → begun ≡ has_begun before → answer ≡ (reader_of r).takes before m

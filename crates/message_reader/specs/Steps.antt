@@ -16,18 +16,21 @@ use Rattle.message_reader.specs.Representation.{Represents, pending_at}
 pub record Extends (old new : ReaderParts) (piece : List ℕ) : Type 0 where
   pub role : new.role ≡ old.role
   pub total : new.total ≡ old.total + length piece
-  pub represents : (stream : List ℕ) (messages : List Msg) → Represents old stream messages → Represents new (stream ++ piece) messages
+  pub represents : (stream : List ℕ) (messages : List Msg) → Represents old stream messages
+      → Represents new (stream ++ piece) messages
 
 -- the bad frame of a verdict, with its place
 abbrev pub bad_frame : {reader : Reader} {stream : List ℕ} → Verdict reader stream → Option BadFrame
-bad_frame verdict = option_map (λ (why : Reason). record { place = verdict.place; reason = why }) verdict.bad
+bad_frame verdict =
+    option_map (λ (why : Reason). record { place = verdict.place; reason = why }) verdict.bad
 
 -- where a frame begins of which some bytes have come and not all
 abbrev pub partial_at : {reader : Reader} {stream : List ℕ} → Verdict reader stream → Option ℕ
 partial_at verdict = pending_at None verdict.place verdict.rest
 
 -- the verdict on the stream has these messages, and then this bad frame or less than a frame
-pub record Concludes (reader : Reader) (stream : List ℕ) (messages : List Msg) (bad : Option BadFrame) : Type 0 where
+pub record Concludes (reader : Reader) (stream : List ℕ) (messages : List Msg)
+    (bad : Option BadFrame) : Type 0 where
   pub verdict : Verdict reader stream
   pub messages_are : verdict.messages ≡ messages
   pub bad_is : bad_frame verdict ≡ bad
@@ -36,15 +39,19 @@ pub record Concludes (reader : Reader) (stream : List ℕ) (messages : List Msg)
 pub record GivesMessage (old new : ReaderParts) (place : ℕ) (m : Msg) : Type 0 where
   pub role : new.role ≡ old.role
   pub shorter : length new.framer.rest < length old.framer.rest
-  pub place_is : (stream : List ℕ) (messages : List Msg) → Represents old stream messages → place ≡ length (frames_of messages)
-  pub represents : (stream : List ℕ) (messages : List Msg) → Represents old stream messages → Represents new stream (messages ++ m ∷ [])
+  pub place_is : (stream : List ℕ) (messages : List Msg) → Represents old stream messages
+      → place ≡ length (frames_of messages)
+  pub represents : (stream : List ℕ) (messages : List Msg) → Represents old stream messages
+      → Represents new stream (messages ++ m ∷ [])
 
 -- no message is left: the verdict on the stream has those that were given
 pub record GivesNone (old new : ReaderParts) (bad : Option BadFrame) : Type 0 where
   pub role : new.role ≡ old.role
   pub bad_is : new.bad ≡ bad
-  pub concludes : (stream : List ℕ) (messages : List Msg) → Represents old stream messages → Concludes (reader_of new.role) stream messages bad
-  pub represents : (stream : List ℕ) (messages : List Msg) → Represents old stream messages → Represents new stream messages
+  pub concludes : (stream : List ℕ) (messages : List Msg) → Represents old stream messages
+      → Concludes (reader_of new.role) stream messages bad
+  pub represents : (stream : List ℕ) (messages : List Msg) → Represents old stream messages
+      → Represents new stream messages
 
 -- the next part of the verdict was given
 abbrev pub Gives : ReaderParts → ReaderParts → ReadStep → Type 0

@@ -7,8 +7,8 @@ ghost use Rattle.message_codec.specs.Verdicts.{Verdict};
 ghost use Rattle.message_reader.specs.declared.reader.BadFrame.{BadFrame};
 ghost use Rattle.message_reader.specs.Steps.{Concludes, bad_frame};
 
-/// A reader that was asked to the end of a stream has the one verdict on it. So the same messages and
-/// the same bad frame come however the stream was cut into pieces.
+/// A reader that was asked to the end of a stream has the one verdict on it. So the same messages
+/// and the same bad frame come however the stream was cut into pieces.
 pub fn one_reading()
     ensures { (reader : Reader) (stream : List ℕ) (messages : List Msg) (bad : Option BadFrame)
         → Concludes reader stream messages bad

@@ -37,8 +37,8 @@ pub enum ReadStep {
     Bad(BadFrame),
 }
 
-/// Reads the messages of one stream, which comes in pieces. Pieces are fed, and then asked for until no
-/// message is left. Where they were cut makes no difference.
+/// Reads the messages of one stream, which comes in pieces. Pieces are fed, and then asked for
+/// until no message is left. Where they were cut makes no difference.
 ///
 /// It holds what its framer holds: where each piece is asked until no message is left, at most the
 /// limit, 3 bytes and the latest piece. After a bad frame it holds nothing more.
@@ -87,8 +87,8 @@ impl MessageReader {
         }
     }
 
-    /// Puts the next piece at the end of the stream, which has fewer than 2^63 bytes in all. After a bad
-    /// frame the piece is counted and not kept. On `OutOfMemory` nothing changes.
+    /// Puts the next piece at the end of the stream, which has fewer than 2^63 bytes in all. After
+    /// a bad frame the piece is counted and not kept. On `OutOfMemory` nothing changes.
     pub fn feed(&mut self, piece: &[u8]) -> Result<(), OutOfMemory>
         requires { self.old.total + length piece.now < 2 ^ 63 }
         ensures ok { OnOk result (Extends self.old self.new piece.now) }
@@ -103,8 +103,8 @@ impl MessageReader {
 
     /// Gives the next message of the stream, or says that a piece or the stream ends there.
     ///
-    /// On `OutOfMemory`, which comes of decoding a message alone, nothing changes: the next call finds
-    /// the same frame.
+    /// On `OutOfMemory`, which comes of decoding a message alone, nothing changes: the next call
+    /// finds the same frame.
     pub fn next(&mut self) -> Result<ReadStep, OutOfMemory>
         ensures gives { IfOk result (Gives self.old self.new) }
         ensures err { OnErr result (self.new ≡ self.old) }
@@ -132,8 +132,8 @@ impl MessageReader {
         }
     }
 
-    /// Returns the offset of the first byte that is part of no message given: after `More`, that of a
-    /// partly received frame. `None` if there is no such byte, and after a bad frame.
+    /// Returns the offset of the first byte that is part of no message given: after `More`, that of
+    /// a partly received frame. `None` if there is no such byte, and after a bad frame.
     pub fn pending(&self) -> Option<u64>
         ensures { IsPending self.now result }
     {

@@ -1,7 +1,8 @@
 //! What a reader expects of a stream.
 
 ghost use Rattle.std.specs.Prelude.{◌≡◌, ◌≤◌};
-ghost use Rattle.message_reader.specs.Roles.{reader_of, is_hello, is_answer, is_refusal, IsLimit, MayStand};
+ghost use Rattle.message_reader.specs.Roles.{reader_of, is_hello, is_answer, is_refusal, IsLimit};
+ghost use Rattle.message_reader.specs.Roles.{MayStand};
 
 use message_codec::{End, Msg};
 use wire_frames::BODY_LIMIT;
@@ -12,11 +13,11 @@ pub const HELLO_LIMIT: u32 = 1_024;
 /// Who reads a stream, which decides which messages may stand where and how long a body may be.
 #[derive(Clone, Copy, Debug, PartialEq, Eq)]
 pub enum Role {
-    /// A server reads the stream of a client. The first message must be a hello answer, in a body of at
-    /// most 1,024 bytes; no later one may be one.
+    /// A server reads the stream of a client. The first message must be a hello answer, in a body
+    /// of at most 1,024 bytes; no later one may be one.
     Server,
-    /// A client reads the stream of a server. The first message must be a hello or a refusal (`EICV`,
-    /// `EBSY`, `EUNK` or `EBAD`); no later one may be a hello.
+    /// A client reads the stream of a server. The first message must be a hello or a refusal
+    /// (`EICV`, `EBSY`, `EUNK` or `EBAD`); no later one may be a hello.
     Client,
     /// Somebody else reads the stream of that end. Every message of that end may stand anywhere.
     Observer(End),

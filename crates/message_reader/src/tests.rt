@@ -7,8 +7,8 @@ use std::alloc::Global;
 use std::process::Abort;
 use std::test::*;
 
-/// A stream, and what a reader gives of it: the shown messages, the offset of a frame that is there in
-/// part, and the bad frame with its reason.
+/// A stream, and what a reader gives of it: the shown messages, the offset of a frame that is there
+/// in part, and the bad frame with its reason.
 #[derive(Clone, Copy, Debug)]
 struct Row<'a> {
     role: Role,

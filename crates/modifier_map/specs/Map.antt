@@ -6,7 +6,8 @@ use Rattle.share_base.specs.declared.numbers.Mask.{Mask}
 use Rattle.modifier_map.specs.declared.class.ModClass.{ModClass}
 use Rattle.modifier_map.specs.declared.class.ModClass.TheVariants as class
 use Rattle.modifier_map.specs.declared.map.ModMap.{ModMap}
-use Rattle.modifier_map.specs.Table.{row, all_classes, class_of_left, class_of_right, class_of_code, class_of_value, bit_of}
+use Rattle.modifier_map.specs.Table.{row, all_classes, class_of_left, class_of_right, class_of_code}
+use Rattle.modifier_map.specs.Table.{class_of_value, bit_of}
 
 -- the class to which a class is mapped, or none
 abbrev pub target : ModMap → ModClass → Option ModClass
@@ -18,13 +19,21 @@ target m class.Super = m.super_key
 
 -- each class is mapped to itself
 abbrev pub identity : ModMap
-identity = record { shift = Some class.Shift; control = Some class.Control; alt = Some class.Alt; meta = Some class.Meta; super_key = Some class.Super }
+identity =
+    record {
+      shift = Some class.Shift;
+      control = Some class.Control;
+      alt = Some class.Alt;
+      meta = Some class.Meta;
+      super_key = Some class.Super;
+    }
 
 -- ---- options
 
 -- the target that a value names: none at 0, else the class of that value
 abbrev pub named_target : ℕ → Option (Option ModClass)
-named_target value = if nat_eq value 0 then Some None else option_map (λ c. Some c) (class_of_value value)
+named_target value =
+    if nat_eq value 0 then Some None else option_map (λ c. Some c) (class_of_value value)
 
 -- the map with another target of one class
 abbrev pub with_target : ModMap → ModClass → Option ModClass → ModMap
@@ -52,7 +61,8 @@ left_key c = record { 0 = (row c).left }
 abbrev pub right_key : ModClass → KeyId
 right_key c = record { 0 = (row c).right }
 
--- a left key becomes the left key of its class's target, a right key the right one, and another key stays
+-- a left key becomes the left key of its class's target, a right key the right one, and another key
+-- stays
 abbrev pub meant_key : ModMap → KeyId → Option ModClass → Option ModClass → Option KeyId
 meant_key m id (Some c) right = option_map left_key (target m c)
 meant_key m id None (Some c) = option_map right_key (target m c)
@@ -67,4 +77,8 @@ moved_bit m mask c = if nat_eq (bit_and mask (row c).bit) 0 then 0 else bit_of (
 
 -- the other bits, and for each class whose bit is set the bit of its target
 abbrev pub mask_under : ModMap → Mask → Mask
-mask_under m mask = record { 0 = fold (λ bits c. bit_or bits (moved_bit m mask.0 c)) (bit_and mask.0 0xffe0) all_classes }
+mask_under m mask =
+    record {
+      0 = fold (λ bits c. bit_or bits (moved_bit m mask.0 c)) (bit_and mask.0 0xffe0)
+          all_classes;
+    }

@@ -1,5 +1,6 @@
 -- Presses and releases of keys, the newest first, and what they leave down.
-use Rattle.std.specs.Prelude.{◌≡◌, ◌≢◌, ℕ, zero, suc, ◌<◌, List, [], ◌∷◌, length, Option, None, Some, slice_get, bit_and, bit_or, bit_xor, nat_eq, if◌then◌else◌}
+use Rattle.std.specs.Prelude.{◌≡◌, ◌≢◌, ℕ, zero, suc, ◌<◌, List, [], ◌∷◌, length, Option, None}
+use Rattle.std.specs.Prelude.{Some, slice_get, bit_and, bit_or, bit_xor, nat_eq, if◌then◌else◌}
 use Rattle.modifier_map.specs.declared.class.ModClass.{ModClass}
 use Rattle.modifier_map.specs.Table.{row, class_of_key, bit_of, lock_bit}
 
@@ -42,7 +43,8 @@ toggles_of (Release at ∷ calls) = toggles_of calls
 
 -- a key of that class is down at a button below that number
 abbrev pub IsHeldBelow : ℕ → List Call → ModClass → Type 0
-IsHeldBelow limit calls c = (button : ℕ) × (button < limit) × (class_down (down calls button) ≡ Some c)
+IsHeldBelow limit calls c =
+    (button : ℕ) × (button < limit) × (class_down (down calls button) ≡ Some c)
 
 -- a key of that class is down
 abbrev pub IsHeld : List Call → ModClass → Type 0

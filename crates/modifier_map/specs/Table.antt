@@ -1,12 +1,21 @@
--- The table of modifiers: for each class its two keys, its bit in masks, the code of the option that gives it a target, and the value by which an option names it. And the lock keys.
-use Rattle.std.specs.Prelude.{ℕ, List, [], ◌∷◌, Option, None, Some, codes, find, nat_eq, if◌then◌else◌}
+-- The table of modifiers: for each class its two keys, its bit in masks, the code of the option
+-- that gives it a target, and the value by which an option names it. And the lock keys.
+use Rattle.std.specs.Prelude.{ℕ, List, [], ◌∷◌, Option, None, Some, codes, find, nat_eq}
+use Rattle.std.specs.Prelude.{if◌then◌else◌}
 use Rattle.std.specs.Int.{w32, from_be_bytes}
 use Rattle.modifier_map.specs.declared.class.Row.{Row}
 use Rattle.modifier_map.specs.declared.class.ModClass.{ModClass}
 use Rattle.modifier_map.specs.declared.class.ModClass.TheVariants as class
 
 abbrev pub row_of : ℕ → ℕ → ℕ → List ℕ → ℕ → Row
-row_of left right bit letters value = record { left = left; right = right; bit = bit; code = from_be_bytes w32 letters; value = value }
+row_of left right bit letters value =
+    record {
+      left = left;
+      right = right;
+      bit = bit;
+      code = from_be_bytes w32 letters;
+      value = value;
+    }
 
 abbrev pub row : ModClass → Row
 row class.Shift = row_of 0xefe1 0xefe2 0x01 (codes "MMFS") 1
@@ -52,4 +61,6 @@ key_bit id = bit_of (class_of_key id)
 
 -- the toggle that a lock key flips, 0 for every other key: CapsLock, NumLock and ScrollLock
 abbrev pub lock_bit : ℕ → ℕ
-lock_bit id = if nat_eq id 0xefe5 then 0x1000 else if nat_eq id 0xef7f then 0x2000 else if nat_eq id 0xef14 then 0x4000 else 0
+lock_bit id =
+    if nat_eq id 0xefe5 then 0x1000 else if nat_eq id 0xef7f then 0x2000 else if nat_eq id 0xef14
+    then 0x4000 else 0

@@ -1,7 +1,8 @@
 //! The table of modifiers.
 
 ghost use Rattle.std.specs.Prelude.{◌≡◌, ◌≤◌, find, nat_eq};
-ghost use Rattle.modifier_map.specs.Table.{row, row_of, class_of_left, class_of_right, class_of_code, class_of_value, key_bit, lock_bit};
+ghost use Rattle.modifier_map.specs.Table.{row, row_of, class_of_left, class_of_right};
+ghost use Rattle.modifier_map.specs.Table.{class_of_code, class_of_value, key_bit, lock_bit};
 
 use share_base::KeyId;
 

@@ -1,7 +1,8 @@
 //! Which modifiers are held, and which toggles are on.
 
 ghost use Rattle.std.specs.Prelude.{◌≡◌, ◌<◌, [], ◌∷◌, List, ℕ, fold, bit_or};
-ghost use Rattle.modifier_map.specs.Presses.{Call, Press, Release, mods_of, toggles_of, StandsFor, Extends};
+ghost use Rattle.modifier_map.specs.Presses.{Call, Press, Release, mods_of, toggles_of, StandsFor};
+ghost use Rattle.modifier_map.specs.Presses.{Extends};
 
 use crate::class::{key_bit, lock_bit};
 use share_base::{Button, KeyId, Mask};
@@ -38,8 +39,8 @@ impl HeldMods {
         }
     }
 
-    /// A key goes down at a button below 256. A button that is down already has the new key from then
-    /// on. A lock key flips its toggle, at each press.
+    /// A key goes down at a button below 256. A button that is down already has the new key from
+    /// then on. A lock key flips its toggle, at each press.
     pub fn press(&mut self, id: KeyId, button: Button)
         requires { button.0 < 256 }
         ensures { Extends self.old self.new (Press id.0 button.0) }

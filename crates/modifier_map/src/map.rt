@@ -1,7 +1,8 @@
 //! The translation of modifiers for one screen.
 
 ghost use Rattle.std.specs.Prelude.{◌≡◌};
-ghost use Rattle.modifier_map.specs.Map.{identity, target, named_target, changed, key_under, moved_bit, mask_under};
+ghost use Rattle.modifier_map.specs.Map.{identity, target, named_target, changed, key_under};
+ghost use Rattle.modifier_map.specs.Map.{moved_bit, mask_under};
 
 use crate::class::ModClass;
 use share_base::{KeyId, Mask};
@@ -73,9 +74,9 @@ impl ModMap {
         }
     }
 
-    /// The key that is meant on that screen: a left key of a class becomes the left key of its target,
-    /// a right key the right one. `None` for a key of a class that is mapped to none.
-    /// Every other key stays.
+    /// The key that is meant on that screen: a left key of a class becomes the left key of its
+    /// target, a right key the right one. `None` for a key of a class that is mapped to none. Every
+    /// other key stays.
     pub fn key(&self, id: KeyId) -> Option<KeyId>
         ensures { result ≡ key_under self.now id }
     {
@@ -97,8 +98,8 @@ impl ModMap {
         self.target(class).map_or(0, |to| to.row().bit)
     }
 
-    /// The mask that is meant on that screen: each of the five bits of classes becomes the bit of its
-    /// target, or none. The other bits stay.
+    /// The mask that is meant on that screen: each of the five bits of classes becomes the bit of
+    /// its target, or none. The other bits stay.
     pub fn mask(&self, mask: Mask) -> Mask
         ensures { result ≡ mask_under self.now mask }
     {

@@ -19,8 +19,8 @@ fn code(letters: &[u8; 4]) -> u32 {
     u32::from_be_bytes(*letters)
 }
 
-/// The letters of the option of each class, its left and right key, its bit in a mask, and the value by
-/// which an option names it.
+/// The letters of the option of each class, its left and right key, its bit in a mask, and the
+/// value by which an option names it.
 const CLASSES: [(&[u8; 4], u16, u16, u16, u32); 5] = [
     (b"MMFS", 0xefe1, 0xefe2, 0x0001, 1),
     (b"MMFC", 0xefe3, 0xefe4, 0x0002, 2),

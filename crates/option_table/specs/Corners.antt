@@ -1,5 +1,6 @@
 -- Sets of corners, and the words that make them.
-use Rattle.std.specs.Prelude.{ℕ, ◌-◌, ◌==◌, if◌then◌else◌, List, [], ◌∷◌, drop, Option, Some, None, codes, bit_and, bit_or}
+use Rattle.std.specs.Prelude.{ℕ, ◌-◌, ◌==◌, if◌then◌else◌, List, [], ◌∷◌, drop, Option, Some, None}
+use Rattle.std.specs.Prelude.{codes, bit_and, bit_or}
 use Rattle.std.specs.List.{find}
 use Rattle.std.specs.Str.{bytes_eq}
 use Rattle.text_lines.specs.Reading.{begins}
@@ -7,7 +8,8 @@ use Rattle.text_lines.specs.Words.{words_of}
 use Rattle.option_table.specs.declared.corners.CornerWord.{CornerWord}
 use Rattle.option_table.specs.declared.corners.CornerWord.TheVariants as corner
 
--- a corner's word, and the sum of its corners: top-left 1, top-right 2, bottom-left 4, bottom-right 8
+-- a corner's word, and the sum of its corners: top-left 1, top-right 2, bottom-left 4, bottom-right
+-- 8
 pub record CornerText : Type 0 where
   pub word : List ℕ
   pub corners : ℕ
@@ -47,13 +49,15 @@ without_corners set (Some c) = Some (bit_and set (15 - (corner_of c).corners))
 -- a word without a sign adds its corners; that of no corner empties the set
 abbrev pub plain_corners : ℕ → Option CornerWord → Option ℕ
 plain_corners set None = None
-plain_corners set (Some c) = Some (if (corner_of c).corners == 0 then 0 else bit_or set (corner_of c).corners)
+plain_corners set (Some c) =
+    Some (if (corner_of c).corners == 0 then 0 else bit_or set (corner_of c).corners)
 
 -- the set after one word, which may have + or - before it
 unfoldable pub after_word : ℕ → List ℕ → Option ℕ
 after_word set word =
     if begins 43 word then with_corners set (corner_named (drop 1 word))
-    else (if begins 45 word then without_corners set (corner_named (drop 1 word)) else plain_corners set (corner_named word))
+    else (if begins 45 word then without_corners set (corner_named (drop 1 word))
+    else plain_corners set (corner_named word))
 
 abbrev pub and_then : Option ℕ → (ℕ → Option ℕ) → Option ℕ
 and_then None f = None

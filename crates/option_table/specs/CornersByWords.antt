@@ -1,5 +1,6 @@
 -- The corners that words make, said for each corner: by the last word that speaks of it.
-use Rattle.std.specs.Prelude.{◌≡◌, ℕ, Bool, true, false, not, ◌==◌, ◌&&◌, ◌||◌, List, [], ◌∷◌, ◌++◌, drop, Option, Some, None, is_some, codes, bit_and}
+use Rattle.std.specs.Prelude.{◌≡◌, ℕ, Bool, true, false, not, ◌==◌, ◌&&◌, ◌||◌, List, [], ◌∷◌, ◌++◌}
+use Rattle.std.specs.Prelude.{drop, Option, Some, None, is_some, codes, bit_and}
 use Rattle.std.specs.List.{list_any}
 use Rattle.std.specs.Str.{bytes_eq}
 use Rattle.text_lines.specs.Reading.{begins}
@@ -49,7 +50,9 @@ pub record IsAdded (c : Corner) (words : List (List ℕ)) : Type 0 where
 
 -- a word of the table, maybe with a sign
 abbrev pub is_corner_word : List ℕ → Bool
-is_corner_word word = is_some (corner_named word) || ((begins 43 word || begins 45 word) && is_some (corner_named (drop 1 word)))
+is_corner_word word =
+    is_some (corner_named word)
+    || ((begins 43 word || begins 45 word) && is_some (corner_named (drop 1 word)))
 
 abbrev pub is_some_word : List (List ℕ) → Bool
 is_some_word [] = false

@@ -1,11 +1,11 @@
+pub mod CornerViews
 pub mod Corners
 pub mod CornersByWords
 pub mod Places
 pub mod Printed
-pub mod Seen
-pub mod SeenCorners
+pub mod Scopes
 pub mod Settings
-pub mod Standing
 pub mod Table
 pub mod Values
+pub mod Views
 pub mod Wire

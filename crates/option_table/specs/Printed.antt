@@ -1,5 +1,6 @@
 -- Options as they are printed.
-use Rattle.std.specs.Prelude.{ℕ, ◌==◌, if◌then◌else◌, List, [], ◌∷◌, ◌++◌, Option, Some, None, codes, slice_get, unwrap_or, bit_and}
+use Rattle.std.specs.Prelude.{ℕ, ◌==◌, if◌then◌else◌, List, [], ◌∷◌, ◌++◌, Option, Some, None}
+use Rattle.std.specs.Prelude.{codes, slice_get, unwrap_or, bit_and}
 use Rattle.std.specs.List.{flat_map}
 use Rattle.std.specs.Fmt.{decimal}
 use Rattle.option_table.specs.declared.rows.OptionName.{OptionName}
@@ -17,7 +18,8 @@ abbrev pub single_corners : List CornerWord
 single_corners = corner.TopLeft ∷ corner.TopRight ∷ corner.BottomLeft ∷ corner.BottomRight ∷ []
 
 unfoldable pub corner_text : ℕ → CornerWord → List ℕ
-corner_text set c = if bit_and set (corner_of c).corners == 0 then [] else codes " +" ++ (corner_of c).word
+corner_text set c =
+    if bit_and set (corner_of c).corners == 0 then [] else codes " +" ++ (corner_of c).word
 
 -- a set of corners: `none`, and each corner of it with a +
 abbrev pub corners_text : ℕ → List ℕ
@@ -35,7 +37,8 @@ value_text form.Protocol v = word_text form.Protocol v
 
 -- KEY = VALUE
 abbrev pub option_text : OptionName → ℕ → List ℕ
-option_text option value = ((row_of option).key ++ codes " = ") ++ value_text (row_of option).form value
+option_text option value =
+    ((row_of option).key ++ codes " = ") ++ value_text (row_of option).form value
 
 -- a line with these bytes in front of the option, where it is set
 abbrev pub line_where_set : List ℕ → OptionName → Option ℕ → List ℕ

@@ -1,5 +1,6 @@
 -- Options that are set: for each row of the table its value, where it has one.
-use Rattle.std.specs.Prelude.{◌≡◌, ℕ, Bool, true, false, List, Option, Some, None, slice_get, slice_set, replicate, unwrap_or}
+use Rattle.std.specs.Prelude.{◌≡◌, ℕ, Bool, true, false, List, Option, Some, None, slice_get}
+use Rattle.std.specs.Prelude.{slice_set, replicate, unwrap_or}
 use Rattle.option_table.specs.declared.rows.OptionName.{OptionName}
 use Rattle.option_table.specs.Table.{row_of, options}
 use Rattle.option_table.specs.Places.{place_of}
@@ -26,7 +27,8 @@ row_suits (Some option) v = suits (row_of option).form v
 
 -- each value is one of its row's form
 abbrev pub AreSuited : Values → Type 0
-AreSuited values = (n v : ℕ) → slice_get values n ≡ Some (Some v) → row_suits (slice_get options n) v ≡ true
+AreSuited values =
+    (n v : ℕ) → slice_get values n ≡ Some (Some v) → row_suits (slice_get options n) v ≡ true
 
 -- the value that stands: the one that is set, or the row's default
 abbrev pub standing : Values → OptionName → ℕ

@@ -10,7 +10,8 @@ use Rattle.option_table.specs.Corners.{corners_of_text}
 -- the words of a form, in the order of their values, from 0
 abbrev pub words_of_form : ValueForm → List (List ℕ)
 words_of_form form.Flag = codes "false" ∷ codes "true" ∷ []
-words_of_form form.Modifier = codes "none" ∷ codes "shift" ∷ codes "ctrl" ∷ codes "alt" ∷ codes "meta" ∷ codes "super" ∷ []
+words_of_form form.Modifier =
+    codes "none" ∷ codes "shift" ∷ codes "ctrl" ∷ codes "alt" ∷ codes "meta" ∷ codes "super" ∷ []
 words_of_form form.Corners = []
 words_of_form (form.UpTo max) = []
 words_of_form form.Protocol = codes "synergy" ∷ codes "barrier" ∷ []

@@ -1,4 +1,5 @@
--- The options that a screen is sent: of each that is set and has a code, the code and the value, in the table's order.
+-- The options that a screen is sent: of each that is set and has a code, the code and the value, in
+-- the table's order.
 use Rattle.std.specs.Prelude.{ℕ, List, [], ◌∷◌, Option, Some, None}
 use Rattle.std.specs.List.{flat_map}
 use Rattle.option_table.specs.declared.rows.OptionName.{OptionName}
@@ -11,7 +12,8 @@ pair (Some code) None = []
 pair (Some code) (Some value) = code ∷ value ∷ []
 
 unfoldable pub sent_of : Values → Values → OptionName → List ℕ
-sent_of own all option = pair (row_of option).code (own_or_all (setting own option) (setting all option))
+sent_of own all option =
+    pair (row_of option).code (own_or_all (setting own option) (setting all option))
 
 -- the words for a screen of these options of its own, beside those for all screens
 abbrev pub wire_words : Values → Values → List ℕ

@@ -3,7 +3,7 @@
 ghost use Rattle.std.specs.Prelude.{◌≡◌, ◌≤◌, ◌^◌, ◌<◌, IfSome};
 ghost use Rattle.option_table.specs.Corners as spec;
 ghost use Rattle.option_table.specs.Corners.{corner_of, corner_named, after_word, corners_of_text};
-ghost use Rattle.option_table.specs.SeenCorners.{corner_text};
+ghost use Rattle.option_table.specs.CornerViews.{corner_text};
 
 use text_lines::{WordKind, unblanked, word_len};
 
@@ -75,7 +75,8 @@ impl CornerWord {
         self.row().word.as_bytes()
     }
 
-    /// The corners that it names: the sum of top-left 1, top-right 2, bottom-left 4 and bottom-right 8.
+    /// The corners that it names: the sum of top-left 1, top-right 2, bottom-left 4 and
+    /// bottom-right 8.
     pub(crate) fn corners(self) -> u32
         ensures corners { result ≡ (corner_of self).corners }
         ensures bound { result ≤ 15 }
@@ -83,7 +84,7 @@ impl CornerWord {
         self.row().corners
     }
 
-    /// The word that the text is. `None` comes exactly where it is none of them.
+    /// The word that the text is. `None` if it is none of them.
     #[tactic(auto, unfolding(crate::specs::Corners::corner_named))]
     fn named(text: &[u8]) -> Option<CornerWord>
         ensures { result ≡ corner_named text.now }
@@ -141,8 +142,8 @@ fn after_word(set: u32, word: &[u8]) -> Option<u32>
     }
 }
 
-/// The set that the words of a text make, one after another. `None` comes exactly where the text has no
-/// word, or one that is none for corners.
+/// The set that the words of a text make, one after another. `None` if the text has no word, or one
+/// that is none for corners.
 pub(crate) fn corners(text: &[u8]) -> Option<u32>
     ensures gives { result ≡ corners_of_text text.now }
     ensures bound { IfSome result (λ s. s ≤ 15) }

@@ -1,9 +1,9 @@
 //! The options of a configuration: which there are, where each may stand, how its value is written,
 //! which value stands where none is set, and its code on the wire.
 //!
-//! It owns the table (`specs/Table.antt`), the forms of values (`specs/Values.antt`), sets of corners
-//! (`specs/Corners.antt`), options that are set (`specs/Settings.antt`) and what of them is sent
-//! (`specs/Wire.antt`). It may know no section and no screen.
+//! It owns the table (`specs/Table.antt`), the forms of values (`specs/Values.antt`), sets of
+//! corners (`specs/Corners.antt`), options that are set (`specs/Settings.antt`) and what of them is
+//! sent (`specs/Wire.antt`). It may know no section and no screen.
 #![tactic(auto)]
 
 mod corners;

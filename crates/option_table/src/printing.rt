@@ -1,6 +1,7 @@
 //! Options as they are printed.
 
-ghost use Rattle.std.specs.Prelude.{◌≡◌, ◌≤◌, ◌<◌, ◌++◌, ◌∷◌, [], OnOk, OnErr, Some, slice_get, length, true};
+ghost use Rattle.std.specs.Prelude.{◌≡◌, ◌≤◌, ◌<◌, ◌++◌, ◌∷◌, [], OnOk, OnErr, Some, slice_get};
+ghost use Rattle.std.specs.Prelude.{length, true};
 ghost use Rattle.std.specs.Fmt.{decimal};
 ghost use Rattle.option_table.specs.Values.{suits, words_of_form};
 ghost use Rattle.option_table.specs.Table.{row_of};
@@ -98,8 +99,8 @@ fn put_line(
     out.push(b'\n')
 }
 
-/// Adds a line `KEY = VALUE` for each option that is set, in the order of the table, with these bytes in
-/// front of each. After `OutOfMemory` some of it may have been added.
+/// Adds a line `KEY = VALUE` for each option that is set, in the order of the table, with these
+/// bytes before each. After `OutOfMemory` some of it may have been added.
 pub fn put_option_lines(
     tabs: &[u8],
     settings: &Settings,

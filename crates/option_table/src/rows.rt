@@ -4,7 +4,7 @@ ghost use Rattle.std.specs.Prelude.{◌≡◌, ◌<◌, ◌≤◌, IfSome, lengt
 ghost use Rattle.std.specs.Int.{from_be_bytes, w32};
 ghost use Rattle.option_table.specs.Table.{row_of, option_named};
 ghost use Rattle.option_table.specs.Places.{place_of};
-ghost use Rattle.option_table.specs.Seen.{row_text};
+ghost use Rattle.option_table.specs.Views.{row_text};
 
 /// An option, in the order of the table.
 #[derive(Clone, Copy, Debug, PartialEq, Eq)]
@@ -141,7 +141,8 @@ fn make_row(
     default: u32,
     code: Option<u32>,
 ) -> Row
-    ensures { row_text result ≡ record { key = key.now; scope = scope; form = form; default = default; code = code } }
+    ensures { row_text result
+        ≡ record { key = key.now; scope = scope; form = form; default = default; code = code } }
 {
     Row {
         key,
@@ -350,7 +351,7 @@ impl OptionName {
         }
     }
 
-    /// The option of that key. `None` comes exactly where no row has it.
+    /// The option of that key. `None` if no row has it.
     #[tactic(auto, unfolding(crate::specs::Table::option_named))]
     pub fn named(key: &[u8]) -> Option<OptionName>
         ensures { result ≡ option_named key.now }

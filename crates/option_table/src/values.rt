@@ -18,7 +18,8 @@ fn place_of_word(words: &[&str], text: &[u8]) -> Option<usize>
 }
 
 impl ValueForm {
-    /// The words of a form, in the order of their values, from 0. A form of numbers or corners has none.
+    /// The words of a form, in the order of their values, from 0. A form of numbers or corners has
+    /// none.
     pub(crate) fn words(self) -> &'static [&'static str]
         ensures words { map (λ w. w.now) result.now ≡ words_of_form self }
         ensures count { length result.now ≡ length (words_of_form self) }
@@ -44,7 +45,7 @@ impl ValueForm {
         }
     }
 
-    /// The value that a text spells. `None` comes exactly where it spells none of this form.
+    /// The value that a text spells. `None` if it spells none of this form.
     #[tactic(auto, unfolding(crate::specs::Values::value_of))]
     pub fn value(self, text: &[u8]) -> Option<u32>
         ensures value { result ≡ spec.value_of self text.now }

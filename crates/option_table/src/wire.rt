@@ -35,9 +35,10 @@ fn put_option(
     out.extend(&[code, value])
 }
 
-/// Adds the words of a screen with these options of its own, beside those for all screens: of each option
-/// that is set and has a code, the code and then the value, in the order of the table. A screen's own
-/// value stands in place of that for all. After `OutOfMemory` some of them may have been added.
+/// Adds the words of a screen with these options of its own, beside those for all screens: of each
+/// option that is set and has a code, the code and then the value, in the order of the table. A
+/// screen's own value stands in place of that for all. After `OutOfMemory` some of them may have
+/// been added.
 pub fn put_wire_words(own: &Settings, all: &Settings, out: &mut Words32) -> Result<(), OutOfMemory>
     ensures { OnOk result (out.new ≡ out.old ++ wire_words own.now all.now) }
 {

@@ -56,7 +56,8 @@ button_of keys id = record { 0 = 0xf000 + place_of keys id }
 unfoldable pub with_button : List ℕ → Action → Action
 with_button keys (action.KeyStroke id mods button) = action.KeyStroke id mods (button_of keys id.0)
 with_button keys (action.KeyPress id mods button) = action.KeyPress id mods (button_of keys id.0)
-with_button keys (action.KeyRelease id mods button) = action.KeyRelease id mods (button_of keys id.0)
+with_button keys (action.KeyRelease id mods button) =
+    action.KeyRelease id mods (button_of keys id.0)
 with_button keys (action.MouseClick mods b) = action.MouseClick mods b
 with_button keys (action.MousePress mods b) = action.MousePress mods b
 with_button keys (action.MouseRelease mods b) = action.MouseRelease mods b

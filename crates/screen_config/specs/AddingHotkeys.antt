@@ -1,5 +1,6 @@
 -- What adding a hotkey answers, and what is counted for the next one.
-use Rattle.std.specs.Prelude.{◌≡◌, ℕ, ◌+◌, ◌<◌, ◌≤◌, Bool, true, false, ◌&&◌, nat_lt, nat_le, List, [], ◌∷◌, ◌++◌, length, map, Result, Ok, Err}
+use Rattle.std.specs.Prelude.{◌≡◌, ℕ, ◌+◌, ◌<◌, ◌≤◌, Bool, true, false, ◌&&◌, nat_lt, nat_le, List}
+use Rattle.std.specs.Prelude.{[], ◌∷◌, ◌++◌, length, map, Result, Ok, Err}
 use Rattle.hotkey_rules.specs.declared.action.Action.{Action}
 use Rattle.hotkey_rules.specs.declared.trigger.Trigger.{Trigger}
 use Rattle.hotkey_rules.specs.declared.rule.Rule.{Rule}
@@ -24,16 +25,22 @@ has_room hotkeys actions =
 
 -- a rule of actions that have the buttons of these keys
 abbrev pub numbered : List ℕ → Trigger → List Action → List Action → Rule
-numbered keys trigger press release = rule_of trigger (map (with_button keys) press) (map (with_button keys) release)
+numbered keys trigger press release =
+    rule_of trigger (map (with_button keys) press) (map (with_button keys) release)
 
 -- the rule that follows these rules
 abbrev pub next_rule : List Rule → Trigger → List Action → List Action → Rule
-next_rule hotkeys trigger press release = numbered (keys_with hotkeys (press ++ release)) trigger press release
+next_rule hotkeys trigger press release =
+    numbered (keys_with hotkeys (press ++ release)) trigger press release
 
 -- the answer's cause, and the hotkeys after it: with the new one at the end, or as they were
-abbrev pub AddsHotkey : Result (Unit {0}) HotkeysFault → List Rule → Trigger → List Action → List Action → List Rule → Type 0
-AddsHotkey (Ok _) old trigger press release new = (has_room old (press ++ release) ≡ true) × (new ≡ old ++ next_rule old trigger press release ∷ [])
-AddsHotkey (Err fault.Full) old trigger press release new = (has_room old (press ++ release) ≡ false) × (new ≡ old)
+abbrev pub AddsHotkey : Result (Unit {0}) HotkeysFault → List Rule → Trigger → List Action
+    → List Action → List Rule → Type 0
+AddsHotkey (Ok _) old trigger press release new =
+    (has_room old (press ++ release) ≡ true)
+    × (new ≡ old ++ next_rule old trigger press release ∷ [])
+AddsHotkey (Err fault.Full) old trigger press release new =
+    (has_room old (press ++ release) ≡ false) × (new ≡ old)
 AddsHotkey (Err fault.OutOfMemory) old trigger press release new = new ≡ old
 
 -- the answer's cause, and the keys after it. At a fault some may have been added.

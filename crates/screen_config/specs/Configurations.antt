@@ -1,7 +1,7 @@
--- What a configuration holds: screens, aliases, links and hotkeys in the order of the text, and the options for all
--- screens.
+-- What a configuration holds: screens, aliases, links and hotkeys in the order of the text, and the
+-- options for all screens.
 use Rattle.std.specs.Prelude.{ℕ, List, [], ◌∷◌, ◌++◌, Option, Some, None, slice_get, slice_set}
-use Rattle.std.specs.Option.{option_map}
+use Rattle.std.specs.Option.{option_map, option_or}
 use Rattle.std.specs.List.{position, find}
 use Rattle.share_base.specs.Names.{same_name}
 use Rattle.screen_links.specs.declared.link.Link.{Link}
@@ -28,21 +28,19 @@ screen_place screens name = position (λ s. same_name s.name name) screens
 abbrev pub alias_place : List Alias → List ℕ → Option ℕ
 alias_place aliases name = option_map (λ a. a.screen) (find (λ a. same_name a.name name) aliases)
 
-abbrev pub or_else : Option ℕ → Option ℕ → Option ℕ
-or_else None other = other
-or_else (Some n) other = Some n
-
 -- the number of the screen of that name or alias
 unfoldable pub screen_of : Configuration → List ℕ → Option ℕ
-screen_of c name = or_else (screen_place c.screens name) (alias_place c.aliases name)
+screen_of c name = option_or (screen_place c.screens name) (alias_place c.aliases name)
 
 -- ---- with something more
 
 abbrev pub with_screen : Configuration → List ℕ → Configuration
-with_screen c name = record c { screens = c.screens ++ (record { name = name; settings = none_set }) ∷ [] }
+with_screen c name =
+    record c { screens = c.screens ++ (record { name = name; settings = none_set }) ∷ [] }
 
 abbrev pub with_alias : Configuration → List ℕ → ℕ → Configuration
-with_alias c name screen = record c { aliases = c.aliases ++ (record { name = name; screen = screen }) ∷ [] }
+with_alias c name screen =
+    record c { aliases = c.aliases ++ (record { name = name; screen = screen }) ∷ [] }
 
 abbrev pub with_link : Configuration → Link → Configuration
 with_link c link = record c { links = c.links ++ link ∷ [] }
@@ -56,7 +54,9 @@ with_global c option value = record c { settings = with_setting c.settings optio
 -- the screens, where that one's option is set
 abbrev pub screens_with : Option Screen → List Screen → ℕ → OptionName → ℕ → List Screen
 screens_with None screens n option value = screens
-screens_with (Some s) screens n option value = slice_set screens n (record s { settings = with_setting s.settings option value })
+screens_with (Some s) screens n option value =
+    slice_set screens n (record s { settings = with_setting s.settings option value })
 
 unfoldable pub with_own : Configuration → ℕ → OptionName → ℕ → Configuration
-with_own c n option value = record c { screens = screens_with (slice_get c.screens n) c.screens n option value }
+with_own c n option value =
+    record c { screens = screens_with (slice_get c.screens n) c.screens n option value }

@@ -1,5 +1,6 @@
 -- The options that stand, for all screens and for one.
-use Rattle.std.specs.Prelude.{ℕ, Bool, ◌==◌, ◌≤◌, if◌then◌else◌, Option, Some, None, slice_get, unwrap_or}
+use Rattle.std.specs.Prelude.{ℕ, Bool, ◌==◌, ◌≤◌, if◌then◌else◌, Option, Some, None, slice_get}
+use Rattle.std.specs.Prelude.{unwrap_or}
 use Rattle.option_table.specs.declared.rows.OptionName.{OptionName}
 use Rattle.option_table.specs.declared.rows.OptionName.TheVariants as option
 use Rattle.option_table.specs.Settings.{Values, setting, standing}
@@ -62,7 +63,11 @@ abbrev pub standing_for : Configuration → ℕ → OptionName → ℕ
 standing_for c n o = unwrap_or (setting (own_of c n) o) (standing c.settings o)
 
 abbrev pub corners_of : Configuration → ℕ → Corners
-corners_of c n = record { set = standing_for c n option.SwitchCorners; size = standing_for c n option.SwitchCornerSize }
+corners_of c n =
+    record {
+      set = standing_for c n option.SwitchCorners;
+      size = standing_for c n option.SwitchCornerSize;
+    }
 
 -- what a screen is sent
 abbrev pub wire_options_of : Configuration → ℕ → List ℕ

@@ -1,13 +1,14 @@
--- What every configuration keeps: its limits, that each screen's number in it is that of a screen, that its names are
--- names and apart, that no alias is `end`, whose line closes a section, that its options are set where they may stand,
--- and what links and hotkeys keep.
-use Rattle.std.specs.Prelude.{◌≡◌, ℕ, ◌≤◌, Bool, true, not, ◌&&◌, nat_lt, List, [], ◌∷◌, ◌++◌, length, map, codes}
+-- What every configuration keeps: its limits, that each screen's number in it is that of a screen,
+-- that its names are names and apart, that no alias is `end`, whose line closes a section, that its
+-- options are set where they may stand, and what links and hotkeys keep.
+use Rattle.std.specs.Prelude.{◌≡◌, ℕ, ◌≤◌, Bool, true, not, ◌&&◌, nat_lt, List, [], ◌∷◌, ◌++◌}
+use Rattle.std.specs.Prelude.{length, map, codes}
 use Rattle.std.specs.List.{list_all, list_any}
 use Rattle.std.specs.Str.{bytes_eq}
 use Rattle.share_base.specs.Names.{is_name, same_name}
 use Rattle.screen_links.specs.declared.link.Link.{Link}
 use Rattle.screen_links.specs.Apart.{AreSound}
-use Rattle.option_table.specs.Standing.{are_settings, stands_below_screen, stands_for_all}
+use Rattle.option_table.specs.Scopes.{are_settings, stands_below_screen, stands_for_all}
 use Rattle.share_base.specs.declared.screen_set.TheConstants.{MOST_SCREENS}
 use Rattle.screen_config.specs.declared.config.TheConstants.{MOST_ALIASES}
 use Rattle.screen_config.specs.declared.screens.Screen.{Screen}

@@ -1,5 +1,6 @@
--- What the hotkeys of every configuration keep: their limits, that a text can spell each of them, that each screen's
--- number in them is that of a screen, and that each key of an action has its own button.
+-- What the hotkeys of every configuration keep: their limits, that a text can spell each of them,
+-- that each screen's number in them is that of a screen, and that each key of an action has its own
+-- button.
 use Rattle.std.specs.Prelude.{◌≡◌, ℕ, ◌≤◌, Bool, true, nat_lt, ◌&&◌, List, length}
 use Rattle.std.specs.List.{list_all, All}
 use Rattle.hotkey_rules.specs.declared.action.Action.{Action}

@@ -1,6 +1,8 @@
--- The value of a configuration: what it holds of each screen, in the order of the text, the options for all, and the
--- hotkeys in the order of the text. The order between aliases of different screens, and between links of different sides or screens, is no part of it.
-use Rattle.std.specs.Prelude.{ℕ, Bool, ◌==◌, ◌&&◌, List, [], length, map, filter, Option, Some, None, slice_get}
+-- The value of a configuration: what it holds of each screen, in the order of the text, the options
+-- for all, and the hotkeys in the order of the text. The order between aliases of different
+-- screens, and between links of different sides or screens, is no part of it.
+use Rattle.std.specs.Prelude.{ℕ, Bool, ◌==◌, ◌&&◌, List, [], length, map, filter, Option, Some}
+use Rattle.std.specs.Prelude.{None, slice_get}
 use Rattle.std.specs.List.{flat_map, filter_map, find, range_with_len}
 use Rattle.share_base.specs.declared.shape.Side.{Side}
 use Rattle.screen_links.specs.declared.link.Link.{Link}
@@ -53,7 +55,8 @@ links_in c n = flat_map (links_on c n) sides
 
 -- ---- all of it
 
--- a screen's name, its own options, its aliases in the order of the text, and for each side its links by where they begin
+-- a screen's name, its own options, its aliases in the order of the text, and for each side its
+-- links by where they begin
 pub record ScreenValue : Type 0 where
   pub name : List ℕ
   pub settings : Values
@@ -61,7 +64,13 @@ pub record ScreenValue : Type 0 where
   pub links : List (List Link)
 
 abbrev pub screen_value : Configuration → ℕ → ScreenValue
-screen_value c n = record { name = name_of c n; settings = own_of c n; aliases = map (λ a. a.name) (aliases_in c n); links = map (links_on c n) sides }
+screen_value c n =
+    record {
+      name = name_of c n;
+      settings = own_of c n;
+      aliases = map (λ a. a.name) (aliases_in c n);
+      links = map (links_on c n) sides;
+    }
 
 pub record ConfigValue : Type 0 where
   pub screens : List ScreenValue
@@ -69,4 +78,9 @@ pub record ConfigValue : Type 0 where
   pub hotkeys : List Rule
 
 unfoldable pub value_of : Configuration → ConfigValue
-value_of c = record { screens = map (screen_value c) (numbers_of c); settings = c.settings; hotkeys = c.hotkeys }
+value_of c =
+    record {
+      screens = map (screen_value c) (numbers_of c);
+      settings = c.settings;
+      hotkeys = c.hotkeys;
+    }

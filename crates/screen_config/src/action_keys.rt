@@ -1,6 +1,7 @@
 //! The keys of actions, and their buttons.
 
-ghost use Rattle.std.specs.Prelude.{◌≡◌, ◌==◌, ◌<◌, ◌≤◌, ◌∷◌, [], map, length, position, IfOk, IfSome};
+ghost use Rattle.std.specs.Prelude.{◌≡◌, ◌==◌, ◌<◌, ◌≤◌, ◌∷◌, [], map, length, position, IfOk};
+ghost use Rattle.std.specs.Prelude.{IfSome};
 ghost use Rattle.std.specs.Option.{option_to_list};
 ghost use Rattle.screen_config.specs.ActionKeys as spec;
 ghost use Rattle.screen_config.specs.ActionKeys.{key_in, keys_in};
@@ -65,8 +66,8 @@ fn add_key_of(keys: &mut Vec<u16>, action: Action) -> Result<(), HotkeysFault>
     }
 }
 
-/// Adds the keys of actions that aren't there yet. `Full` comes exactly where there would be more than 256;
-/// after a fault some of them may have been added.
+/// Adds the keys of actions that aren't there yet. `Full` if there would be more than 256; after a
+/// fault some of them may have been added.
 pub(crate) fn add_keys(keys: &mut Vec<u16>, actions: &[Action]) -> Result<(), HotkeysFault>
     requires { length keys.old.items ≤ MOST_ACTION_KEYS }
     ensures { AddsKeys result keys.old.items (keys_in actions.now) keys.new.items }

@@ -1,6 +1,7 @@
 //! Values that are found by their names.
 
-ghost use Rattle.std.specs.Prelude.{◌≡◌, ◌<◌, ◌≤◌, ◌++◌, ◌∷◌, [], length, take, IfOk, IfSome, OnOk, OnErr, None, slice_get, true};
+ghost use Rattle.std.specs.Prelude.{◌≡◌, ◌<◌, ◌≤◌, ◌++◌, ◌∷◌, [], length, take, IfOk, IfSome, OnOk};
+ghost use Rattle.std.specs.Prelude.{OnErr, None, slice_get, true};
 ghost use Rattle.std.specs.List.{position};
 ghost use Rattle.share_base.specs.Names.{same_name};
 ghost use Rattle.option_table.specs.Table.{row_of};
@@ -26,8 +27,8 @@ pub(crate) trait Named: Drop {
         ensures { result.now ≡ name_of self.now };
 }
 
-/// Values in the order in which they were added, each found by its name in capital or small letters,
-/// without a walk over the others. Contracts see the list of values.
+/// Values in the order in which they were added, each found by its name in capital or small
+/// letters, without a walk over the others. Contracts see the list of values.
 #[derive(Debug, Drop)]
 pub(crate) struct ByName<T: Named> {
     values: IndexMap<Vec<u8>, T>,

@@ -1,18 +1,21 @@
 //! A configuration, and the steps in which it is built.
 
-ghost use Rattle.std.specs.Prelude.{◌≡◌, ◌<◌, ◌≤◌, ◌++◌, ◌∷◌, [], length, true, false, IfSome, OnOk, OnErr, Option, None};
+ghost use Rattle.std.specs.Prelude.{◌≡◌, ◌<◌, ◌≤◌, ◌++◌, ◌∷◌, [], length, true, false, IfSome};
+ghost use Rattle.std.specs.Prelude.{OnOk, OnErr, Option, None};
 ghost use Rattle.std.specs.Option.{option_map, option_copied};
 ghost use Rattle.std.specs.List.{position, find, list_all};
 ghost use Rattle.share_base.specs.Names.{is_name, same_name};
 ghost use Rattle.screen_links.specs.Adding.{Adds};
 ghost use Rattle.option_table.specs.Table.{row_of};
 ghost use Rattle.option_table.specs.Values.{suits};
-ghost use Rattle.option_table.specs.Standing.{stands_below_screen, stands_for_all};
+ghost use Rattle.option_table.specs.Scopes.{stands_below_screen, stands_for_all};
 ghost use Rattle.hotkey_rules.specs.WellFormed.{is_trigger};
 ghost use Rattle.screen_config.specs.AddingHotkeys.{AddsHotkey};
 ghost use Rattle.screen_config.specs.SoundHotkeys.{is_action_among};
 ghost use Rattle.screen_config.specs.Configurations as spec;
-ghost use Rattle.screen_config.specs.Configurations.{nothing, screen_of, screen_place, alias_place, with_screen, with_alias, with_global, with_own};
+ghost use Rattle.screen_config.specs.Configurations.{nothing, screen_of, screen_place, alias_place};
+ghost use Rattle.screen_config.specs.Configurations.{with_screen, with_alias, with_global};
+ghost use Rattle.screen_config.specs.Configurations.{with_own};
 ghost use Rattle.screen_config.specs.Sound.{IsSound, is_end};
 
 use crate::by_name::ByName;
@@ -28,8 +31,8 @@ use std::marker::Model;
 /// How many aliases there are at most.
 pub const MOST_ALIASES: usize = 256;
 
-/// A configuration: its screens with their own options, their aliases and links, the options for all
-/// screens, and the hotkeys. It is made by `parse` alone. Contracts see a `Configuration`.
+/// A configuration: its screens with their own options, their aliases and links, the options for
+/// all screens, and the hotkeys. It is made by `parse` alone. Contracts see a `Configuration`.
 #[derive(Debug, Drop)]
 pub struct Config {
     alloc: Global,
@@ -87,10 +90,10 @@ impl Config {
         }
     }
 
-    /// How many screens there are, at most 64. Their numbers are those below. Every configuration is
-    /// sound: each number of a screen in it is one of them, its names are names of which no two are the
-    /// same, its options are set where they may stand, to values that suit them, its links are apart, and
-    /// a text can spell its hotkeys.
+    /// How many screens there are, at most 64. Their numbers are those below. Every configuration
+    /// is sound: each number of a screen in it is one of them, its names are names of which no two
+    /// are the same, its options are set where they may stand, to values that suit them, its links
+    /// are apart, and a text can spell its hotkeys.
     pub fn count(&self) -> u16
         ensures count { result ≡ length self.now.screens }
         ensures bound { length self.now.screens ≤ MOST_SCREENS }
@@ -99,17 +102,17 @@ impl Config {
         self.screens.as_slice().len() as u16
     }
 
-    /// The hotkeys, in the order of the text: at most 256, with 4,096 actions. Each can be spelled by a
-    /// text, each screen's number in them is below `count`, and the button of a key is 0xF000 and the
-    /// key's place among the keys of actions. It takes no memory.
+    /// The hotkeys, in the order of the text: at most 256, with 4,096 actions. Each can be spelled
+    /// by a text, each screen's number in them is below `count`, and the button of a key is 0xF000
+    /// and the key's place among the keys of actions. It takes no memory.
     pub fn rules(&self) -> &Rules
         ensures { result.now ≡ self.now.hotkeys }
     {
         self.hotkeys.rules()
     }
 
-    /// The screen of that name or alias, in capital or small letters. `None` comes exactly where none
-    /// has it. It takes no memory.
+    /// The screen of that name or alias, in capital or small letters. `None` if none has it. It
+    /// takes no memory.
     #[tactic(auto, unfolding(crate::specs::Configurations::screen_of))]
     pub fn find(&self, name: &[u8]) -> Option<ScreenNo>
         ensures found { option_map (λ n. n.0) result ≡ screen_of self.now name.now }
@@ -172,7 +175,8 @@ impl Config {
         })
     }
 
-    /// A further alias. No screen or alias has its name, and it isn't `end`, whose line closes a section.
+    /// A further alias. No screen or alias has its name, and it isn't `end`, whose line closes a
+    /// section.
     pub fn add_alias(&mut self, name: ScreenName, screen: u16) -> Result<(), OutOfMemory>
         requires room { length self.old.aliases < MOST_ALIASES }
         requires known { screen < length self.old.screens }
@@ -206,7 +210,8 @@ impl Config {
         requires trigger { is_trigger trigger ≡ true }
         requires press { list_all (is_action_among (length self.old.screens)) press.now ≡ true }
         requires release { list_all (is_action_among (length self.old.screens)) release.now ≡ true }
-        ensures hotkeys { AddsHotkey result self.old.hotkeys trigger press.now release.now self.new.hotkeys }
+        ensures hotkeys { AddsHotkey result self.old.hotkeys trigger press.now release.now
+            self.new.hotkeys }
         ensures rest { self.new ≡ record self.old { hotkeys = self.new.hotkeys } }
     {
         self.hotkeys.add(trigger, press, release)

@@ -32,7 +32,8 @@ pub struct Globals {
     pub switch_delay: u32,
     /// Milliseconds within which an edge is touched twice, at most 60,000; 0 for once.
     pub switch_double_tap: u32,
-    /// Corners that block an edge: the sum of top-left 1, top-right 2, bottom-left 4, bottom-right 8.
+    /// Corners that block an edge: the sum of top-left 1, top-right 2, bottom-left 4, bottom-right
+    /// 8.
     pub switch_corners: u8,
     /// Pixels of a corner, at most 32,767.
     pub switch_corner_size: u32,
@@ -121,8 +122,12 @@ fn standing_value(own: &Settings, all: &Settings, option: OptionName) -> u32
 
 #[tactic(auto, unfolding(option_table::specs::Table::row_of))]
 fn corners_for(own: &Settings, all: &Settings) -> Corners
-    ensures set { result.set ≡ unwrap_or (setting own.now OptionName.SwitchCorners) (standing all.now OptionName.SwitchCorners) }
-    ensures size { result.size ≡ unwrap_or (setting own.now OptionName.SwitchCornerSize) (standing all.now OptionName.SwitchCornerSize) }
+    ensures set { result.set
+        ≡ unwrap_or (setting own.now OptionName.SwitchCorners)
+        (standing all.now OptionName.SwitchCorners) }
+    ensures size { result.size
+        ≡ unwrap_or (setting own.now OptionName.SwitchCornerSize)
+        (standing all.now OptionName.SwitchCornerSize) }
     ensures in_range { (result.set ≤ 15) × (result.size ≤ 32767) }
 {
     Corners {
@@ -156,7 +161,8 @@ impl Config {
         globals_of(&self.settings)
     }
 
-    /// The corners of a screen that block an edge: its own, or those for all screens. It takes no memory.
+    /// The corners of a screen that block an edge: its own, or those for all screens. It takes no
+    /// memory.
     pub fn corners(&self, no: ScreenNo) -> Corners
         requires { no.0 < length self.now.screens }
         ensures corners { result ≡ spec.corners_of self.now no.0 }
@@ -166,9 +172,9 @@ impl Config {
         corners_for(&screen.settings, &self.settings)
     }
 
-    /// Adds what a screen is sent: of each option that is set and has a code, the code and then the value,
-    /// in the order of the table. A screen's own value stands in place of that for all. After
-    /// `OutOfMemory` nothing was added.
+    /// Adds what a screen is sent: of each option that is set and has a code, the code and then the
+    /// value, in the order of the table. A screen's own value stands in place of that for all.
+    /// After `OutOfMemory` nothing was added.
     pub fn wire_options(
         &self,
         alloc: Global,

@@ -23,17 +23,17 @@ pub enum HotkeysFault {
 
 impl From<OutOfMemory> for HotkeysFault {
     ghost use Rattle.std.specs.Prelude.{◌≡◌};
-    ghost use Rattle.screen_config.specs.declared.hotkeys.HotkeysFault.TheVariants.{OutOfMemory as no_memory};
+    ghost use Rattle.screen_config.specs.declared.hotkeys.HotkeysFault.TheVariants as fault;
 
-    ghost from_gives = { λ _ e. e ≡ no_memory };
+    ghost from_gives = { λ _ e. e ≡ fault.OutOfMemory };
 
     fn from(_error: OutOfMemory) -> HotkeysFault {
         HotkeysFault::OutOfMemory
     }
 }
 
-/// Hotkeys in the order of the text, with what the limits and the buttons of the next one need. Contracts
-/// see a list of rules.
+/// Hotkeys in the order of the text, with what the limits and the buttons of the next one need.
+/// Contracts see a list of rules.
 #[derive(Debug, Drop)]
 pub(crate) struct Hotkeys {
     alloc: Global,
@@ -80,8 +80,8 @@ impl Hotkeys {
         &self.rules
     }
 
-    /// A further hotkey, whose keys are given their buttons. `Full` comes exactly where it would pass a
-    /// limit: 256 hotkeys, 256 keys of actions, 4,096 actions. After a fault the hotkeys are unchanged.
+    /// A further hotkey, whose keys are given their buttons. `Full` if it would pass a limit: 256
+    /// hotkeys, 256 keys of actions, 4,096 actions. After a fault the hotkeys are unchanged.
     pub(crate) fn add(
         &mut self,
         trigger: Trigger,

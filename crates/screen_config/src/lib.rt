@@ -1,10 +1,10 @@
-//! A configuration: screens with their own options, aliases and links, the options for all screens, and the
-//! hotkeys.
+//! A configuration: screens with their own options, aliases and links, the options for all screens,
+//! and the hotkeys.
 //!
 //! It owns what a configuration holds (`specs/Configurations.antt`), what every configuration keeps
-//! (`specs/Sound.antt`), what it answers (`specs/Globals.antt`), its value (`specs/Values.antt`) and the
-//! keys of actions (`specs/ActionKeys.antt`). It may know no text of a configuration, and no machine that
-//! goes by it.
+//! (`specs/Sound.antt`), what it answers (`specs/Globals.antt`), its value (`specs/Values.antt`)
+//! and the keys of actions (`specs/ActionKeys.antt`). It may know no text of a configuration, and
+//! no machine that goes by it.
 #![tactic(auto)]
 
 mod action_keys;

@@ -1,5 +1,6 @@
 -- How many screens below a number were not seen yet, and what one more seen screen changes.
-use Rattle.std.proofs.Common.{◌≡◌, ℕ, zero, suc, ◌+◌, ◌<◌, ◌≤◌, Bool, true, false, cond, eqb, ◌||◌, refl, sym, ap, ◌∙◌, inl, inr, subst, arith}
+use Rattle.std.proofs.Common.{◌≡◌, ℕ, zero, suc, ◌+◌, ◌<◌, ◌≤◌, Bool, true, false, cond, eqb, ◌||◌}
+use Rattle.std.proofs.Common.{refl, sym, ap, ◌∙◌, inl, inr, subst, arith}
 use Rattle.std.specs.Prelude.{◌≢◌}
 use Rattle.std.proofs.Math.Bool.{or-true, or-false}
 use Rattle.std.proofs.lemmas.Bool.Decides.{eqb_tells}
@@ -18,7 +19,8 @@ sees_it old new screen more =
     ]
 
 -- every other screen is seen where it was
-pub sees_others : (old new screen k : ℕ) → SeesMore old new screen → k ≢ screen → has new k ≡ has old k
+pub sees_others : (old new screen k : ℕ) → SeesMore old new screen → k ≢ screen
+    → has new k ≡ has old k
 sees_others old new screen k more other =
     elim (eqb_tells k screen) [
       | inl h ↦ absurd (other h.1)
@@ -30,12 +32,14 @@ or_none true b e = cc
 or_none false b e = refl
 
 -- what is not seen then was not seen before, and is another screen
-pub unseen_before : (old new screen k : ℕ) → SeesMore old new screen → has new k ≡ false → has old k ≡ false
+pub unseen_before : (old new screen k : ℕ) → SeesMore old new screen → has new k ≡ false
+    → has old k ≡ false
 unseen_before old new screen k more none = or_none (has old k) (eqb k screen) (sym (more k) ∙ none)
 
 pub unseen_other : (old new screen k : ℕ) → SeesMore old new screen → has new k ≡ false → screen ≢ k
 unseen_other old new screen k more none = λ e.
-    let seen : has new k ≡ true = subst (λ (j : ℕ). has new j ≡ true) e (sees_it old new screen more) in
+    let seen : has new k ≡ true =
+    subst (λ (j : ℕ). has new j ≡ true) e (sees_it old new screen more) in
     cc
 
 -- how many screens below a number are not seen
@@ -52,23 +56,27 @@ unseen_le : (old new screen n : ℕ) → SeesMore old new screen → unseen new 
 unfolding unseen
 unseen_le old new screen zero more = omega arith
 unseen_le old new screen (suc n) more =
-    let here : cond (has new n) 0 1 ≤ cond (has old n) 0 1 = weight_le (has old n) (has new n) (eqb n screen) (more n) in
+    let here : cond (has new n) 0 1 ≤ cond (has old n) 0 1 =
+    weight_le (has old n) (has new n) (eqb n screen) (more n) in
     let below : unseen new n ≤ unseen old n = unseen_le old new screen n more in
     omega arith
 
 -- one more is seen, so fewer are left
-pub unseen_lt : (old new screen n : ℕ) → SeesMore old new screen → has old screen ≡ false → screen < n → unseen new n < unseen old n
+pub unseen_lt : (old new screen n : ℕ) → SeesMore old new screen → has old screen ≡ false
+    → screen < n → unseen new n < unseen old n
 unfolding unseen
 unseen_lt old new screen zero more fresh lt = absurd (omega arith)
 unseen_lt old new screen (suc n) more fresh lt =
     elim (eqb_tells n screen) [
       | inl h ↦
           let was : has old n ≡ false = subst (λ (j : ℕ). has old j ≡ false) (sym h.1) fresh in
-          let now : has new n ≡ true = subst (λ (j : ℕ). has new j ≡ true) (sym h.1) (sees_it old new screen more) in
+          let now : has new n ≡ true =
+          subst (λ (j : ℕ). has new j ≡ true) (sym h.1) (sees_it old new screen more) in
           let below : unseen new n ≤ unseen old n = unseen_le old new screen n more in
           rw (was, now) (omega arith)
       | inr h ↦
           let same : has new n ≡ has old n = sees_others old new screen n more h.1 in
-          let below : unseen new n < unseen old n = unseen_lt old new screen n more fresh (let ne : n ≢ screen = h.1 in omega arith) in
+          let below : unseen new n < unseen old n =
+          unseen_lt old new screen n more fresh (let ne : n ≢ screen = h.1 in omega arith) in
           rw same (omega arith)
     ]

@@ -10,7 +10,8 @@ use Rattle.screen_links.specs.declared.links.TheConstants.{MOST_LINKS}
 use Rattle.screen_links.specs.Ranges.{IsGood, Meet}
 
 abbrev pub link_of : ScreenNo → Side → Range → ScreenNo → Range → Link
-link_of from side range to onto = record { from = from; side = side; range = range; to = to; onto = onto }
+link_of from side range to onto =
+    record { from = from; side = side; range = range; to = to; onto = onto }
 
 -- a link stands on that side of that screen with a hundredth of that range
 pub record Blocks (link : Link) (from : ScreenNo) (side : Side) (range : Range) : Type 0 where
@@ -38,6 +39,7 @@ Adds (Ok _) old link new =
     HasGoodRanges link × IsFree old link × (length old < MOST_LINKS) × (new ≡ old ++ link ∷ [])
 Adds (Err fault.BadRange) old link new = (HasGoodRanges link → ⊥) × (new ≡ old)
 Adds (Err fault.Overlap) old link new = HasGoodRanges link × IsBlocked old link × (new ≡ old)
-Adds (Err fault.Full) old link new = HasGoodRanges link × IsFree old link × (length old ≡ MOST_LINKS) × (new ≡ old)
+Adds (Err fault.Full) old link new =
+    HasGoodRanges link × IsFree old link × (length old ≡ MOST_LINKS) × (new ≡ old)
 Adds (Err fault.OutOfMemory) old link new =
     HasGoodRanges link × IsFree old link × (length old < MOST_LINKS) × (new ≡ old)

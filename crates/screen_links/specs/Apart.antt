@@ -1,4 +1,5 @@
--- What holds of all links that were added: their ranges are good and, on one side of a screen, apart.
+-- What holds of all links that were added: their ranges are good and, on one side of a screen,
+-- apart.
 use Rattle.std.specs.Prelude.{◌≡◌, ◌<◌, ◌≤◌, List, length, All, AllPairs}
 use Rattle.share_base.specs.declared.screen_set.TheConstants.{MOST_SCREENS}
 use Rattle.screen_links.specs.declared.link.Link.{Link}

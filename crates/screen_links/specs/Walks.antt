@@ -1,5 +1,6 @@
 -- A walk over links, from a place on a side of a screen to the next screen that is there.
-use Rattle.std.specs.Prelude.{◌≡◌, ◌≢◌, ◌↔◌, Option, Some, ℕ, ◌+◌, ◌-◌, ◌*◌, ◌/◌, ◌<◌, ◌≤◌, true, false, List, [], ◌∷◌, ◌++◌, map, All, AllPairs, Contains}
+use Rattle.std.specs.Prelude.{◌≡◌, ◌≢◌, ◌↔◌, Option, Some, ℕ, ◌+◌, ◌-◌, ◌*◌, ◌/◌, ◌<◌, ◌≤◌, true}
+use Rattle.std.specs.Prelude.{false, List, [], ◌∷◌, ◌++◌, map, All, AllPairs, Contains}
 use Rattle.share_base.specs.declared.shape.Side.{Side}
 use Rattle.share_base.specs.declared.screen_set.TheConstants.{MOST_SCREENS}
 use Rattle.share_base.specs.Screens.{has}
@@ -14,7 +15,8 @@ pub record Holds (link : Link) (t : ℕ) : Type 0 where
 -- the place as far along the one range as t is along the other
 abbrev pub place_after : Link → ℕ → ℕ
 place_after link t =
-    10000 * link.onto.a + (t - 10000 * link.range.a) * (link.onto.b - link.onto.a) / (link.range.b - link.range.a)
+    10000 * link.onto.a
+    + (t - 10000 * link.range.a) * (link.onto.b - link.onto.a) / (link.range.b - link.range.a)
 
 abbrev pub landing_of : Link → ℕ → Landing
 landing_of link t = record { screen = link.to; t = place_after link t }
@@ -39,7 +41,8 @@ AreDistinct screens = AllPairs (λ one other. one ≢ other) screens
 
 -- some chain of these links, all of that side, leads from the place to the landing. It names each
 -- screen once, and not the first one. The last screen is joined, and no screen before it is
-pub record Across (links : List Link) (joined : ℕ) (side : Side) (at landing : Landing) : Type 0 where
+pub record Across (links : List Link) (joined : ℕ) (side : Side) (at landing : Landing)
+    : Type 0 where
   pub middle : List Link
   pub last : Link
   pub among : All (Contains links) (middle ++ last ∷ [])
@@ -50,7 +53,8 @@ pub record Across (links : List Link) (joined : ℕ) (side : Side) (at landing :
 
 -- the answer is the one landing of a walk, and none where no walk has a landing
 abbrev pub Lands : List Link → ℕ → Side → Landing → Option Landing → Type 0
-Lands links joined side at answer = (landing : Landing) → (answer ≡ Some landing) ↔ Across links joined side at landing
+Lands links joined side at answer =
+    (landing : Landing) → (answer ≡ Some landing) ↔ Across links joined side at landing
 
 -- the landing is on a screen, and on its side
 abbrev pub IsPlace : Landing → Type 0

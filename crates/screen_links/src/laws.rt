@@ -12,7 +12,8 @@ ghost use Rattle.share_base.specs.Screens.{has};
 
 /// A walk over links that are apart has at most one landing.
 pub fn one_landing()
-    ensures { (links : List OneLink) (joined : ℕ) (side : OneSide) (at one other : Place) → AreApart links
+    ensures { (links : List OneLink) (joined : ℕ) (side : OneSide) (at one other : Place)
+        → AreApart links
         → Across links joined side at one → Across links joined side at other → one ≡ other }
 {}
 
@@ -24,5 +25,6 @@ pub fn pixel_again()
 /// The landing that is computed is that of the walk, and none is computed if no walk has one.
 pub fn landing_is_across()
     ensures { (links : List OneLink) (joined : ℕ) (side : OneSide) (at : Place) → AreSound links
-        → at.screen.0 < 64 → Lands links joined side at (landing_across links (has joined) side at) }
+        → at.screen.0 < 64
+        → Lands links joined side at (landing_across links (has joined) side at) }
 {}

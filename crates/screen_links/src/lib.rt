@@ -2,8 +2,8 @@
 //! screen that is there.
 //!
 //! It owns links and what keeps them apart (`specs/Ranges.antt`, `specs/Adding.antt`,
-//! `specs/Apart.antt`), walks (`specs/Walks.antt`) and places on a side (`specs/Places.antt`). It may
-//! know no configuration text and no machine: screens are numbers here.
+//! `specs/Apart.antt`), walks (`specs/Walks.antt`) and places on a side (`specs/Places.antt`). It
+//! may know no configuration text and no machine: screens are numbers here.
 #![tactic(auto)]
 
 mod laws;

@@ -27,8 +27,8 @@ pub enum LinkFault {
     OutOfMemory,
 }
 
-/// Links between screens, at most 1,024. Contracts see them as a list, in the order in which they were
-/// added. On one side of a screen their ranges have no hundredth in common.
+/// Links between screens, at most 1,024. Contracts see them as a list, in the order in which they
+/// were added. On one side of a screen their ranges have no hundredth in common.
 #[derive(Debug, Drop)]
 pub struct Links {
     links: Vec<Link>,
@@ -56,8 +56,8 @@ impl Links {
         }
     }
 
-    /// Adds a link after the others. The numbers of the screens are below 64. After a fault the links
-    /// are unchanged.
+    /// Adds a link after the others. The numbers of the screens are below 64. After a fault the
+    /// links are unchanged.
     pub fn add(
         &mut self,
         from: ScreenNo,
@@ -92,9 +92,9 @@ impl Links {
         }
     }
 
-    /// The landing of a walk: the place on the first joined screen that a chain of links of that side
-    /// leads to, from the place `t` of that side of a screen. The screen's number and those in `joined`
-    /// are below 64, and `t` is below 1,000,000. `None` comes exactly where no chain leads to a joined
+    /// The landing of a walk: the place on the first joined screen that a chain of links of that
+    /// side leads to, from the place `t` of that side of a screen. The screen's number and those in
+    /// `joined` are below 64, and `t` is below 1,000,000. `None` if no chain leads to a joined
     /// screen. It takes no memory and follows at most 64 links.
     pub fn across(&self, joined: &ScreenSet, from: ScreenNo, side: Side, t: u32) -> Option<Landing>
         requires from_a_screen { from.0 < MOST_SCREENS }

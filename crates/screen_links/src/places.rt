@@ -14,8 +14,8 @@ pub fn place(p: u32, n: u32) -> u32
     ((2 * p as u64 + 1) * 1_000_000 / (2 * n as u64)) as u32
 }
 
-/// The pixel in which a place lies, on a side of `n` pixels. The place is below 1,000,000, and `n` is 1
-/// to 32,767. It takes no memory.
+/// The pixel in which a place lies, on a side of `n` pixels. The place is below 1,000,000, and `n`
+/// is 1 to 32,767. It takes no memory.
 pub fn pixel(t: u32, n: u32) -> u32
     requires in_the_side { t < 1000000 }
     requires some { 1 ≤ n }

@@ -8,8 +8,8 @@ ghost use Rattle.screen_links.specs.declared.link.Link.{Link as OneLink};
 use crate::link::{Landing, Link};
 use share_base::{ScreenSet, Side};
 
-/// The landing of the walk from a place on a side. Each screen on the way is kept, and the walk gives up
-/// where it comes to one again, so it follows at most 64 links.
+/// The landing of the walk from a place on a side. Each screen on the way is kept, and the walk
+/// gives up where it comes to one again, so it follows at most 64 links.
 pub(crate) fn walk(links: &[Link], joined: &ScreenSet, side: Side, from: Landing) -> Option<Landing>
     requires sound { AreSound links.now }
     requires place { IsPlace from }
@@ -35,7 +35,8 @@ pub(crate) fn walk(links: &[Link], joined: &ScreenSet, side: Side, from: Landing
 /// The first link of that side that holds at a place.
 fn link_at(links: &[Link], side: Side, at: Landing) -> Option<Link>
     ensures found { IfSome result (λ link. Contains links.now link × Leaves link side at) }
-    ensures none { IfNone result ((link : OneLink) → Contains links.now link → Leaves link side at → ⊥) }
+    ensures none { IfNone result
+        ((link : OneLink) → Contains links.now link → Leaves link side at → ⊥) }
 {
     links.iter().find(|link| link.leaves(side, at)).copied()
 }

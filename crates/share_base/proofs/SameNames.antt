@@ -12,7 +12,8 @@ bytes_eq_refl xs = (bytes_eq-Decides xs xs).1 refl
 bytes_eq_swapped : (xs ys : List ℕ) → bytes_eq xs ys ≡ bytes_eq ys xs
 bytes_eq_swapped xs ys =
     let turned = bytes_eq-Decides ys xs in
-    same_from_decides (bytes_eq xs ys) (bytes_eq ys xs) (bytes_eq-Decides xs ys) (λ e. sym (turned.0 e), λ e. turned.1 (sym e))
+    same_from_decides (bytes_eq xs ys) (bytes_eq ys xs) (bytes_eq-Decides xs ys)
+    (λ e. sym (turned.0 e), λ e. turned.1 (sym e))
 
 pub same_name_refl : (name : List ℕ) → same_name name name ≡ true
 unfolding same_name
@@ -20,4 +21,5 @@ same_name_refl name = bytes_eq_refl (map to_ascii_lowercase name)
 
 pub same_name_swapped : (one other : List ℕ) → same_name one other ≡ same_name other one
 unfolding same_name
-same_name_swapped one other = bytes_eq_swapped (map to_ascii_lowercase one) (map to_ascii_lowercase other)
+same_name_swapped one other =
+    bytes_eq_swapped (map to_ascii_lowercase one) (map to_ascii_lowercase other)

@@ -16,11 +16,27 @@ pub record MemoryInput : Type 0 where
 
 -- nothing was read yet
 abbrev pub input_of : List ℕ → List ℕ → MemoryInput
-input_of bytes failing = record { left = bytes; ended = false; left_before = bytes; ended_before = false; failing = failing; calls = 0; faults = 0 }
+input_of bytes failing =
+    record {
+      left = bytes;
+      ended = false;
+      left_before = bytes;
+      ended_before = false;
+      failing = failing;
+      calls = 0;
+      faults = 0;
+    }
 
 -- as a source: all is known
 abbrev pub input_state : MemoryInput → SourceState
-input_state s = record { left = Some s.left; ended = Some s.ended; left_before = Some s.left_before; ended_before = Some s.ended_before; faults = s.faults }
+input_state s =
+    record {
+      left = Some s.left;
+      ended = Some s.ended;
+      left_before = Some s.left_before;
+      ended_before = Some s.ended_before;
+      faults = s.faults;
+    }
 
 -- one call more was made, and the same calls fail
 pub record SameInput (old new : MemoryInput) : Type 0 where
@@ -37,7 +53,8 @@ pub record MemoryOutput : Type 0 where
 
 -- nothing was taken yet
 abbrev pub output_of : ℕ → List ℕ → MemoryOutput
-output_of room failing = record { taken = []; room = room; failing = failing; calls = 0; faults = 0 }
+output_of room failing =
+    record { taken = []; room = room; failing = failing; calls = 0; faults = 0 }
 
 -- as a sink: all is known
 abbrev pub output_state : MemoryOutput → SinkState

@@ -1,4 +1,5 @@
--- Moments, in milliseconds. They end at a last one, so that a moment and a few 32-bit delays fit in 64 bits.
+-- Moments, in milliseconds. They end at a last one, so that a moment and a few 32-bit delays fit in
+-- 64 bits.
 use Rattle.std.specs.Prelude.{ℕ, ◌^◌, min}
 
 abbrev pub last_moment : ℕ

@@ -6,7 +6,9 @@ use Rattle.share_base.specs.declared.source.SourceAnswer.TheVariants.{Got, End, 
 use Rattle.share_base.specs.Counts.{Rises}
 use Rattle.share_base.specs.Told.{before, NoneLeft}
 
--- the bytes that no read has given yet, and whether a read has answered the end; what these two were before the latest read; and how often the source has failed. The first four are known or not, each by itself
+-- the bytes that no read has given yet, and whether a read has answered the end; what these two
+-- were before the latest read; and how often the source has failed. The first four are known or
+-- not, each by itself
 pub record SourceState : Type 0 where
   pub left : Option (List ℕ)
   pub ended : Option Bool
@@ -32,7 +34,8 @@ ReadEnds (Got n) old new = new ≡ old
 ReadEnds End old new = new ≡ option_map (λ flag. true) old
 ReadEnds Failed old new = new ≡ old
 
--- the count of faults rose at a failure, and stayed at every other answer; it stands still at its last value
+-- the count of faults rose at a failure, and stayed at every other answer; it stands still at its
+-- last value
 abbrev pub ReadCounts : SourceAnswer → ℕ → ℕ → Type 0
 ReadCounts (Got n) old new = new ≡ old
 ReadCounts End old new = new ≡ old

@@ -1,5 +1,6 @@
 -- What one reading of a file does to what files tell, and to their counts; and the files in memory.
-use Rattle.std.specs.Prelude.{◌≡◌, ℕ, ◌<◌, ◌≤◌, Bool, true, false, ◌==◌, ◌||◌, List, [], length, Option, is_none, IfSome}
+use Rattle.std.specs.Prelude.{◌≡◌, ℕ, ◌<◌, ◌≤◌, Bool, true, false, ◌==◌, ◌||◌, List, [], length}
+use Rattle.std.specs.Prelude.{Option, is_none, IfSome}
 use Rattle.std.specs.Option.{option_map}
 use Rattle.std.specs.List.{find, list_any}
 use Rattle.std.specs.Str.{bytes_eq}
@@ -47,7 +48,8 @@ store_of failing = record { files = []; failing = failing; calls = 0; faults = 0
 
 -- this call is listed, or there is no such file
 abbrev pub fails_at : MemoryStore → List ℕ → Bool
-fails_at store name = list_any (λ n. n == one_more store.calls) store.failing || is_none (file_named store.files name)
+fails_at store name =
+    list_any (λ n. n == one_more store.calls) store.failing || is_none (file_named store.files name)
 
 -- the answer is a failure
 abbrev pub is_failure : FileAnswer → Bool

@@ -20,7 +20,8 @@ abbrev pub WriteTakes : SinkAnswer → List ℕ → Option (List ℕ) → Option
 WriteTakes (Took n) bytes old new = new ≡ after old (take n bytes)
 WriteTakes Failed bytes old new = new ≡ old
 
--- the count of faults rose at a failure, and stayed at every other answer; it stands still at its last value
+-- the count of faults rose at a failure, and stayed at every other answer; it stands still at its
+-- last value
 abbrev pub WriteCounts : SinkAnswer → ℕ → ℕ → Type 0
 WriteCounts (Took n) old new = new ≡ old
 WriteCounts Failed old new = Rises old new

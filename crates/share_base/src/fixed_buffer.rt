@@ -17,8 +17,8 @@ pub type Lines = FixedBuffer<LINES_CAPACITY>;
 /// A buffer for one line of numbers.
 pub type ShortLine = FixedBuffer<SHORT_LINE_CAPACITY>;
 
-/// At most `CAPACITY` bytes, stored in place. Contracts see a list of bytes. No method allocates, so
-/// what it prints can't be lost to `OutOfMemory`.
+/// At most `CAPACITY` bytes, stored in place. Contracts see a list of bytes. No method allocates,
+/// so what it prints can't be lost to `OutOfMemory`.
 #[derive(Drop)]
 pub struct FixedBuffer<const CAPACITY: usize> {
     bytes: [u8; CAPACITY],

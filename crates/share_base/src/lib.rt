@@ -1,7 +1,7 @@
-//! What every other crate stands on: lists of bytes and of words, buffers that text is printed into, decimal
-//! numbers, the small types that name keys, buttons, screens, sides, shapes, clipboards and reasons,
-//! names and sets of screens, and the outside as traits, `Source`, `Sink` and `Files`, with forms of
-//! them in memory.
+//! What every other crate stands on: lists of bytes and of words, buffers that text is printed
+//! into, decimal numbers, the small types that name keys, buttons, screens, sides, shapes,
+//! clipboards and reasons, names and sets of screens, and the outside as traits, `Source`, `Sink`
+//! and `Files`, with forms of them in memory.
 //!
 //! It owns the words for what an outside tells and counts (`specs/Told.antt`, `specs/Counts.antt`).
 //! It may know no frame, no message and no command.

@@ -5,7 +5,8 @@ ghost use Rattle.std.specs.Option.{option_copied};
 ghost use Rattle.std.specs.List.{find};
 ghost use Rattle.std.specs.Str.{bytes_eq};
 ghost use Rattle.share_base.specs.Counts.{one_more};
-ghost use Rattle.share_base.specs.Stored.{MemoryStore, FileGives, FileFaults, FileOvers, fails_at, is_failure, SameFiles, file_named, store_of};
+ghost use Rattle.share_base.specs.Stored.{MemoryStore, FileGives, FileFaults, FileOvers, fails_at};
+ghost use Rattle.share_base.specs.Stored.{is_failure, SameFiles, file_named, store_of};
 
 use crate::files::{FileAnswer, Files};
 use crate::octets::Octets;
@@ -66,7 +67,12 @@ impl MemoryFiles {
     /// Adds a file of a name that isn't held yet. After `OutOfMemory` nothing has changed.
     pub fn add(&mut self, name: &str, bytes: &[u8]) -> Result<(), OutOfMemory>
         requires { file_named self.old.files name.now ≡ None }
-        ensures ok { OnOk result (self.new ≡ record self.old { files = self.old.files ++ (record { name = name.now; bytes = bytes.now }) ∷ [] }) }
+        ensures ok { OnOk result
+            (self.new
+            ≡ record self.old {
+              files = self.old.files
+                  ++ (record { name = name.now; bytes = bytes.now }) ∷ [];
+            }) }
         ensures err { OnErr result (self.new ≡ self.old) }
     {
         let mut file = NamedFile {
@@ -104,7 +110,8 @@ impl Files for MemoryFiles {
     /// Fails exactly at the listed calls and for names that aren't held.
     fn read_all(&mut self, name: &str, limit: u64) -> FileAnswer
         ensures gives { FileGives result limit (file_named self.old.files name.now) }
-        ensures kept { (other : List ℕ) → file_named self.new.files other ≡ file_named self.old.files other }
+        ensures kept { (other : List ℕ)
+            → file_named self.new.files other ≡ file_named self.old.files other }
         ensures calls { self.new.calls ≡ one_more self.old.calls }
         ensures faults { FileFaults result self.old.faults self.new.faults }
         ensures overs { FileOvers result self.old.overs self.new.overs }

@@ -10,9 +10,9 @@ use crate::sink::{Sink, SinkAnswer};
 use std::alloc::Global;
 use std::marker::Model;
 
-/// Room in memory for bytes that are written, with a list of the calls that fail, which are numbered
-/// from 1. The room is reserved when it is made, so a write takes no memory. Contracts see it as a
-/// `MemoryOutput`.
+/// Room in memory for bytes that are written, with a list of the calls that fail, which are
+/// numbered from 1. The room is reserved when it is made, so a write takes no memory. Contracts see
+/// it as a `MemoryOutput`.
 #[derive(Debug, Drop)]
 pub struct MemorySink {
     bytes: Vec<u8>,
@@ -40,7 +40,7 @@ impl Model for MemorySink {
 }
 
 impl MemorySink {
-    /// A sink with room for so many bytes in all, whose writes of the listed numbers fail.
+    /// A sink with room for `room` bytes in all, whose writes of the listed numbers fail.
     pub fn new(alloc: Global, room: usize, failing: &[u64]) -> Result<MemorySink, OutOfMemory>
         ensures { IfOk result (λ s. s ≡ output_of room failing.now) }
     {
@@ -70,7 +70,9 @@ impl Sink for MemorySink {
         requires { 0 < length bytes.now }
         ensures fits { FitsWrite result (length bytes.now) }
         ensures writes { Writes result bytes.now (output_state self.old) (output_state self.new) }
-        ensures fails { (result ≡ SinkAnswer.Failed) ↔ (Contains self.old.failing (one_more self.old.calls) ⊎ (self.old.room ≤ length self.old.taken)) }
+        ensures fails { (result ≡ SinkAnswer.Failed)
+            ↔ (Contains self.old.failing (one_more self.old.calls)
+            ⊎ (self.old.room ≤ length self.old.taken)) }
         ensures kept { SameOutput self.old self.new }
     {
         self.calls = self.calls.saturating_add(1);

@@ -67,7 +67,8 @@ impl Source for MemorySource {
         requires { 0 < length buf.old }
         ensures fits { FitsRead result (length buf.old) }
         ensures reads { Reads result buf.new (input_state self.old) (input_state self.new) }
-        ensures fails { (result ≡ SourceAnswer.Failed) ↔ Contains self.old.failing (one_more self.old.calls) }
+        ensures fails { (result ≡ SourceAnswer.Failed)
+            ↔ Contains self.old.failing (one_more self.old.calls) }
         ensures kept { SameInput self.old self.new }
     {
         self.at_before = self.at;

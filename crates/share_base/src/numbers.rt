@@ -1,10 +1,12 @@
 //! Numbers that name things, each a type of its own.
 
-/// What a key means: a Unicode number, or a number of the table of named keys. 1 to 65,535 in a script.
+/// What a key means: a Unicode number, or a number of the table of named keys. 1 to 65,535 in a
+/// script.
 #[derive(Clone, Copy, Debug, PartialEq, Eq, PartialOrd, Ord)]
 pub struct KeyId(pub u16);
 
-/// Which key on the keyboard: 1 to 255 for a script's, 0xF000 and a number below 256 for an action's.
+/// Which key on the keyboard: 1 to 255 for a script's, 0xF000 and a number below 256 for an
+/// action's.
 #[derive(Clone, Copy, Debug, PartialEq, Eq, PartialOrd, Ord)]
 pub struct Button(pub u16);
 

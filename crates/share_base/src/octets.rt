@@ -48,7 +48,8 @@ impl Octets {
         Ok(())
     }
 
-    /// Appends the two bytes of a number, the higher one first. On `OutOfMemory` the list is unchanged.
+    /// Appends the two bytes of a number, the higher one first. On `OutOfMemory` the list is
+    /// unchanged.
     pub fn extend_u16(&mut self, number: u16) -> Result<(), OutOfMemory>
         ensures ok { OnOk result (self.new ≡ self.old ++ to_be_bytes w16 number) }
         ensures err { OnErr result (self.new ≡ self.old) }
@@ -58,7 +59,8 @@ impl Octets {
         self.extend(&bytes)
     }
 
-    /// Appends the four bytes of a number, the highest one first. On `OutOfMemory` the list is unchanged.
+    /// Appends the four bytes of a number, the highest one first. On `OutOfMemory` the list is
+    /// unchanged.
     pub fn extend_u32(&mut self, number: u32) -> Result<(), OutOfMemory>
         ensures ok { OnOk result (self.new ≡ self.old ++ to_be_bytes w32 number) }
         ensures err { OnErr result (self.new ≡ self.old) }

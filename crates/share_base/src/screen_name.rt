@@ -1,6 +1,7 @@
 //! Names of screens.
 
-ghost use Rattle.std.specs.Prelude.{◌≡◌, ◌≤◌, ◌==◌, ◌-◌, ◌<◌, ◌^◌, length, true, false, MatchOption, IsTrue, List, ℕ};
+ghost use Rattle.std.specs.Prelude.{◌≡◌, ◌≤◌, ◌==◌, ◌-◌, ◌<◌, ◌^◌, length, true, false};
+ghost use Rattle.std.specs.Prelude.{MatchOption, IsTrue, List, ℕ};
 ghost use Rattle.std.specs.List.{list_all, slice_split};
 ghost use Rattle.share_base.specs.Names as spec;
 ghost use Rattle.share_base.specs.Names.{is_name, same_name};
@@ -10,9 +11,9 @@ use std::marker::Model;
 /// How many bytes a name has at most.
 pub const LONGEST_NAME: usize = 255;
 
-/// A name of 1 to 255 bytes: parts with dots between them, and optionally one dot after the last. A part
-/// is made of letters, digits, `_` and `-`, and neither begins nor ends with `-`. Contracts see the
-/// list of its bytes. No method allocates.
+/// A name of 1 to 255 bytes: parts with dots between them, and optionally one dot after the last. A
+/// part is made of letters, digits, `_` and `-`, and neither begins nor ends with `-`. Contracts
+/// see the list of its bytes. No method allocates.
 #[derive(Debug, Drop)]
 pub struct ScreenName {
     bytes: [u8; LONGEST_NAME],
@@ -33,7 +34,8 @@ impl Model for ScreenName {
 impl ScreenName {
     /// Reads a name; `None` if the bytes are not one.
     pub fn read(bytes: &[u8]) -> Option<ScreenName>
-        ensures { MatchOption result (is_name bytes.now ≡ false) (λ n. (is_name bytes.now ≡ true) × (n ≡ bytes.now)) }
+        ensures { MatchOption result (is_name bytes.now ≡ false)
+            (λ n. (is_name bytes.now ≡ true) × (n ≡ bytes.now)) }
     {
         if !is_screen_name(bytes) {
             return None;

@@ -24,8 +24,8 @@ pub trait Sink {
         ensures writes { Writes result bytes.now (state self.old) (state self.new) };
 }
 
-/// Writes all the bytes, by as many writes as that takes. False comes only where the sink failed; it
-/// has taken a front of the bytes then, and no write is made after the one that failed.
+/// Writes all the bytes, by as many writes as that takes. False comes only where the sink failed;
+/// it has taken a front of the bytes then, and no write is made after the one that failed.
 pub fn write_all<K: Sink>(out: &mut K, bytes: &[u8]) -> bool
     ensures { WritesAll result bytes.now (K.state out.old) (K.state out.new) }
 {

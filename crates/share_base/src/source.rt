@@ -14,8 +14,8 @@ pub enum SourceAnswer {
     Failed,
 }
 
-/// Where bytes come from. A source that holds its bytes tells them to contracts; one that stands for
-/// the real world tells none, and then the clauses on bytes say nothing, while those on faults
+/// Where bytes come from. A source that holds its bytes tells them to contracts; one that stands
+/// for the real world tells none, and then the clauses on bytes say nothing, while those on faults
 /// stand.
 pub trait Source {
     /// The bytes that it has left, where they are known, and how often it has failed.

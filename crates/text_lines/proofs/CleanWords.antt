@@ -1,5 +1,6 @@
 -- Words that a line keeps as they are.
-use Rattle.std.proofs.Common.{◌≡◌, ℕ, suc, ◌+◌, ◌-◌, ◌<◌, Bool, true, false, not, ◌&&◌, ◌==◌, List, [], ◌∷◌, ◌++◌, length, get_or, refl, ap, ◌∙◌, length-append, arith}
+use Rattle.std.proofs.Common.{◌≡◌, ℕ, suc, ◌+◌, ◌-◌, ◌<◌, Bool, true, false, not, ◌&&◌, ◌==◌, List}
+use Rattle.std.proofs.Common.{[], ◌∷◌, ◌++◌, length, get_or, refl, ap, ◌∙◌, length-append, arith}
 use Rattle.std.specs.List.{list_all}
 use Rattle.std.proofs.lemmas.Bool.{and_parts, and_from, both_ways, not-true, true_from_ne_false}
 use Rattle.std.proofs.lemmas.List.Folds.{list_all-append, list_all_at}
@@ -19,15 +20,20 @@ pub record IsClean (xs : List ℕ) : Type 0 where
 abbrev pub is_solid : ℕ → Bool
 is_solid b = not (is_blank b)
 
-solid_at : (xs : List ℕ) (n : ℕ) → list_all is_solid xs ≡ true → n < length xs → is_blank (get_or xs n 0) ≡ false
-solid_at xs n all h = not-true _ (true_from_ne_false (is_solid (get_or xs n 0)) (λ e. both_ways (list_all is_solid xs) (list_all_at is_solid xs n 0 h e) all))
+solid_at : (xs : List ℕ) (n : ℕ) → list_all is_solid xs ≡ true → n < length xs
+    → is_blank (get_or xs n 0) ≡ false
+solid_at xs n all h =
+    not-true _
+    (true_from_ne_false (is_solid (get_or xs n 0))
+    (λ e. both_ways (list_all is_solid xs) (list_all_at is_solid xs n 0 h e) all))
 
 solid_tight : (xs : List ℕ) → list_all is_solid xs ≡ true → is_tight xs ≡ true
 solid_tight [] all = refl
 solid_tight (x ∷ xs) all = (and_parts (is_solid x) (list_all is_solid xs) all).0
 
 -- plain bytes, none of which is a blank
-pub clean_solid : (xs : List ℕ) → list_all is_plain xs ≡ true → list_all is_solid xs ≡ true → 0 < length xs → IsClean xs
+pub clean_solid : (xs : List ℕ) → list_all is_plain xs ≡ true → list_all is_solid xs ≡ true
+    → 0 < length xs → IsClean xs
 clean_solid xs plain solid some = record {
   plain = plain;
   some = some;
@@ -39,7 +45,8 @@ pub tight_front : (xs ys : List ℕ) → 0 < length xs → is_tight xs ≡ true 
 tight_front [] ys h t = absurd (omega arith)
 tight_front (x ∷ xs) ys h t = t
 
-last_of : (xs ys : List ℕ) → 0 < length ys → get_or (xs ++ ys) (length (xs ++ ys) - 1) 0 ≡ get_or ys (length ys - 1) 0
+last_of : (xs ys : List ℕ) → 0 < length ys
+    → get_or (xs ++ ys) (length (xs ++ ys) - 1) 0 ≡ get_or ys (length ys - 1) 0
 last_of [] ys h = refl
 last_of (x ∷ xs) ys h =
     let both : length (xs ++ ys) ≡ length xs + length ys = length-append xs ys in
@@ -47,12 +54,16 @@ last_of (x ∷ xs) ys h =
     ap (λ (n : ℕ). get_or (x ∷ (xs ++ ys)) n 0) next ∙ last_of xs ys h
 
 -- clean words, plain bytes and clean words again
-pub clean_around : (xs between ys : List ℕ) → IsClean xs → list_all is_plain between ≡ true → IsClean ys → IsClean ((xs ++ between) ++ ys)
+pub clean_around : (xs between ys : List ℕ) → IsClean xs → list_all is_plain between ≡ true
+    → IsClean ys → IsClean ((xs ++ between) ++ ys)
 clean_around xs between ys front plain back = record {
   plain =
       list_all-append is_plain (xs ++ between) ys
-      ∙ and_from _ _ (list_all-append is_plain xs between ∙ and_from _ _ front.plain plain) back.plain;
+      ∙ and_from _ _ (list_all-append is_plain xs between ∙ and_from _ _ front.plain plain)
+      back.plain;
   some = omega (arith, front.some, length-append (xs ++ between) ys, length-append xs between);
-  tight = tight_front (xs ++ between) ys (omega (arith, front.some, length-append xs between)) (tight_front xs between front.some front.tight);
+  tight =
+      tight_front (xs ++ between) ys (omega (arith, front.some, length-append xs between))
+      (tight_front xs between front.some front.tight);
   ends = ap is_blank (last_of (xs ++ between) ys back.some) ∙ back.ends;
 }

@@ -1,5 +1,6 @@
 -- A sign that may stand there is read exactly where it stands.
-use Rattle.std.proofs.Common.{◌≡◌, ℕ, Bool, true, false, cond, ◌==◌, List, [], ◌∷◌, ◌++◌, Some, None, refl, ap, subst}
+use Rattle.std.proofs.Common.{◌≡◌, ℕ, Bool, true, false, cond, ◌==◌, List, [], ◌∷◌, ◌++◌, Some}
+use Rattle.std.proofs.Common.{None, refl, ap, subst}
 use Rattle.std.proofs.lemmas.Bool.{eqb-true, eq-eqb}
 use Rattle.text_lines.specs.Bytes.{is_tight, unblanked}
 use Rattle.text_lines.specs.Reading.{maybe_sign_at, begins}
@@ -11,10 +12,15 @@ pub begun : (c : ℕ) (xs : List ℕ) → begins c xs ≡ true → (rest : List 
 begun c [] h = absurd cc
 begun c (b ∷ bs) h = (bs, ap (λ n. n ∷ bs) (eqb-true b c h))
 
-taken_by : (t : Bool) (b c : ℕ) (bs rest : List ℕ) → (b == c) ≡ t → cond t (Some (unblanked bs)) None ≡ Some rest → Sign c (b ∷ bs) rest
+taken_by : (t : Bool) (b c : ℕ) (bs rest : List ℕ) → (b == c) ≡ t
+    → cond t (Some (unblanked bs)) None ≡ Some rest → Sign c (b ∷ bs) rest
 taken_by true b c bs rest e h =
     let same : unblanked bs ≡ rest = cc in
-    record { tail = bs; parts = ap (λ n. n ∷ bs) (eqb-true b c e); gap = subst (λ (r : List ℕ). Gap bs r) same (gap_of bs) }
+    record {
+      tail = bs;
+      parts = ap (λ n. n ∷ bs) (eqb-true b c e);
+      gap = subst (λ (r : List ℕ). Gap bs r) same (gap_of bs);
+    }
 taken_by false b c bs rest e h = absurd cc
 
 pub maybe_sign_takes : (c : ℕ) (xs rest : List ℕ) → maybe_sign_at c xs ≡ Some rest → Sign c xs rest
@@ -22,7 +28,8 @@ unfolding maybe_sign_at
 maybe_sign_takes c [] rest h = absurd cc
 maybe_sign_takes c (b ∷ bs) rest h = taken_by (b == c) b c bs rest refl h
 
-pub maybe_sign_again : (c : ℕ) (gap rest : List ℕ) → IsGap gap → is_tight rest ≡ true → maybe_sign_at c (c ∷ (gap ++ rest)) ≡ Some rest
+pub maybe_sign_again : (c : ℕ) (gap rest : List ℕ) → IsGap gap → is_tight rest ≡ true
+    → maybe_sign_at c (c ∷ (gap ++ rest)) ≡ Some rest
 unfolding maybe_sign_at
 maybe_sign_again c gap rest h t = rw (eq-eqb c c refl, gap_again gap rest h t) refl
 

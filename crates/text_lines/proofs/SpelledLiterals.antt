@@ -1,18 +1,22 @@
 -- Words that are read byte by byte.
-use Rattle.std.proofs.Common.{◌≡◌, ℕ, Bool, true, false, cond, ◌==◌, List, [], ◌∷◌, ◌++◌, length, Ok, Err, refl, ap, subst, ◌∙◌}
+use Rattle.std.proofs.Common.{◌≡◌, ℕ, Bool, true, false, cond, ◌==◌, List, [], ◌∷◌, ◌++◌, length}
+use Rattle.std.proofs.Common.{Ok, Err, refl, ap, subst, ◌∙◌}
 use Rattle.std.proofs.lemmas.Bool.{eqb-true, eq-eqb}
 use Rattle.text_lines.specs.Reading.{literal_at}
 
-taken_then : (t : Bool) (b c : ℕ) (bs cs rest : List ℕ) → (b == c) ≡ t → (literal_at cs bs ≡ Ok rest → bs ≡ cs ++ rest)
+taken_then : (t : Bool) (b c : ℕ) (bs cs rest : List ℕ) → (b == c) ≡ t
+    → (literal_at cs bs ≡ Ok rest → bs ≡ cs ++ rest)
     → cond t (literal_at cs bs) (Err (length (b ∷ bs))) ≡ Ok rest → b ∷ bs ≡ c ∷ (cs ++ rest)
-taken_then true b c bs cs rest e go h = ap (λ (n : ℕ). n ∷ bs) (eqb-true b c e) ∙ ap (λ (t : List ℕ). c ∷ t) (go h)
+taken_then true b c bs cs rest e go h =
+    ap (λ (n : ℕ). n ∷ bs) (eqb-true b c e) ∙ ap (λ (t : List ℕ). c ∷ t) (go h)
 taken_then false b c bs cs rest e go h = absurd cc
 
 pub literal_takes : (w xs rest : List ℕ) → literal_at w xs ≡ Ok rest → xs ≡ w ++ rest
 unfolding literal_at
 literal_takes [] xs rest h = cc
 literal_takes (c ∷ cs) [] rest h = absurd cc
-literal_takes (c ∷ cs) (b ∷ bs) rest h = taken_then (b == c) b c bs cs rest refl (literal_takes cs bs rest) h
+literal_takes (c ∷ cs) (b ∷ bs) rest h =
+    taken_then (b == c) b c bs cs rest refl (literal_takes cs bs rest) h
 
 pub literal_again : (w rest : List ℕ) → literal_at w (w ++ rest) ≡ Ok rest
 unfolding literal_at
@@ -30,7 +34,8 @@ pub record Stuck (w xs : List ℕ) (left : ℕ) : Type 0 where
   pub place : length bad ≡ left
   pub other : (b : ℕ) (rest : List ℕ) → bad ≡ b ∷ rest → (b == next) ≡ false
 
-stuck_then : (t : Bool) (b c : ℕ) (bs cs : List ℕ) (left : ℕ) → (b == c) ≡ t → (literal_at cs bs ≡ Err left → Stuck cs bs left)
+stuck_then : (t : Bool) (b c : ℕ) (bs cs : List ℕ) (left : ℕ) → (b == c) ≡ t
+    → (literal_at cs bs ≡ Err left → Stuck cs bs left)
     → cond t (literal_at cs bs) (Err (length (b ∷ bs))) ≡ Err left → Stuck (c ∷ cs) (b ∷ bs) left
 stuck_then true b c bs cs left e go h =
     let s = go h in
@@ -60,10 +65,21 @@ pub literal_stops : (w xs : List ℕ) (left : ℕ) → literal_at w xs ≡ Err l
 unfolding literal_at
 literal_stops [] xs left h = absurd cc
 literal_stops (c ∷ cs) [] left h =
-    record { done = []; next = c; others = cs; bad = []; word = refl; parts = refl; place = cc; other = λ b rest e. absurd cc }
-literal_stops (c ∷ cs) (b ∷ bs) left h = stuck_then (b == c) b c bs cs left refl (literal_stops cs bs left) h
+    record {
+      done = [];
+      next = c;
+      others = cs;
+      bad = [];
+      word = refl;
+      parts = refl;
+      place = cc;
+      other = λ b rest e. absurd cc;
+    }
+literal_stops (c ∷ cs) (b ∷ bs) left h =
+    stuck_then (b == c) b c bs cs left refl (literal_stops cs bs left) h
 
-pub no_literal : (done : List ℕ) (next : ℕ) (others : List ℕ) (b : ℕ) (rest : List ℕ) → (b == next) ≡ false
+pub no_literal : (done : List ℕ) (next : ℕ) (others : List ℕ) (b : ℕ) (rest : List ℕ)
+    → (b == next) ≡ false
     → literal_at (done ++ next ∷ others) (done ++ b ∷ rest) ≡ Err (length (b ∷ rest))
 unfolding literal_at
 no_literal [] next others b rest h = rw h refl

@@ -1,5 +1,6 @@
 -- Kinds of bytes, and the longest front of one kind.
-use Rattle.std.specs.Prelude.{ℕ, Bool, true, not, ◌==◌, ◌&&◌, ◌||◌, nat_le, if◌then◌else◌, List, [], ◌∷◌, take, drop}
+use Rattle.std.specs.Prelude.{ℕ, Bool, true, not, ◌==◌, ◌&&◌, ◌||◌, nat_le, if◌then◌else◌, List, []}
+use Rattle.std.specs.Prelude.{◌∷◌, take, drop}
 use Rattle.std.specs.List.{prefix_len}
 use Rattle.std.specs.Char.{is_ascii_alphanumeric}
 use Rattle.text_lines.specs.declared.bytes.WordKind.{WordKind}
@@ -17,7 +18,8 @@ is_allowed b = (b == 9) || (nat_le 32 b && nat_le b 126)
 abbrev pub takes : WordKind → ℕ → Bool
 takes kind.Solid b = not (is_blank b)
 takes kind.Key b = is_ascii_alphanumeric b
-takes kind.Name b = not (is_blank b || (b == 40) || (b == 41) || (b == 44) || (b == 61) || (b == 58))
+takes kind.Name b =
+    not (is_blank b || (b == 40) || (b == 41) || (b == 44) || (b == 61) || (b == 58))
 takes kind.Side b = not (is_blank b || (b == 40) || (b == 61))
 takes kind.Action b = not (is_blank b || (b == 40))
 takes kind.Argument b = not (b == 41)

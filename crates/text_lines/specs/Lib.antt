@@ -4,7 +4,7 @@ pub mod LineByLine
 pub mod Lines
 pub mod Numbers
 pub mod Reading
-pub mod Seen
 pub mod Spelling
 pub mod SpellingLines
+pub mod Views
 pub mod Words

@@ -1,5 +1,6 @@
 -- What of a line counts.
-use Rattle.std.specs.Prelude.{ℕ, not, ◌==◌, ◌&&◌, if◌then◌else◌, List, [], ◌∷◌, length, take, Option, Some, None}
+use Rattle.std.specs.Prelude.{ℕ, not, ◌==◌, ◌&&◌, if◌then◌else◌, List, [], ◌∷◌, length, take}
+use Rattle.std.specs.Prelude.{Option, Some, None}
 use Rattle.std.specs.List.{position}
 use Rattle.text_lines.specs.Bytes.{is_blank, is_allowed, unblanked}
 use Rattle.text_lines.specs.Reading.{is_empty}
@@ -17,8 +18,8 @@ unfoldable pub trimmed : List ℕ → List ℕ
 trimmed [] = []
 trimmed (b ∷ bs) = if is_blank b && is_empty (trimmed bs) then [] else b ∷ trimmed bs
 
--- a line has no words, or a byte that may not stand there (at so many bytes from its begin), or words, with blanks at
--- neither end; it ends so many bytes from its begin
+-- a line has no words, or a byte that may not stand there (at so many bytes from its begin), or
+-- words, with blanks at neither end; it ends so many bytes from its begin
 pub data LineText : Type 0 where
   Empty : LineText
   Forbidden : ℕ → LineText
@@ -34,4 +35,5 @@ unless_forbidden None xs = words_from (unblanked (trimmed xs)) (length (trimmed 
 
 -- what counts of a line
 unfoldable pub line_text : List ℕ → LineText
-line_text raw = unless_forbidden (position (λ b. not (is_allowed b)) (uncommented raw)) (uncommented raw)
+line_text raw =
+    unless_forbidden (position (λ b. not (is_allowed b)) (uncommented raw)) (uncommented raw)

@@ -1,5 +1,7 @@
--- Words, signs and numbers, from left to right. A form that can't go on answers how many bytes were left there.
-use Rattle.std.specs.Prelude.{◌≡◌, ℕ, ◌+◌, ◌*◌, ◌-◌, Bool, true, false, ◌==◌, if◌then◌else◌, List, [], ◌∷◌, length, Result, Ok, Err, Option, Some, None}
+-- Words, signs and numbers, from left to right. A form that can't go on answers how many bytes were
+-- left there.
+use Rattle.std.specs.Prelude.{◌≡◌, ℕ, ◌+◌, ◌*◌, ◌-◌, Bool, true, false, ◌==◌, if◌then◌else◌, List}
+use Rattle.std.specs.Prelude.{[], ◌∷◌, length, Result, Ok, Err, Option, Some, None}
 use Rattle.std.specs.Char.{is_ascii_digit}
 use Rattle.text_lines.specs.Bytes.{front, behind, unblanked}
 
@@ -74,4 +76,6 @@ unfoldable pub number_at : List ℕ → Read ℕ
 number_at [] = Err 0
 number_at (b ∷ bs) =
     if b == 48 then Ok (0, unblanked bs)
-    else (if is_ascii_digit b then (let n = further (further (b - 48, bs)) in Ok (n.0, unblanked n.1)) else Err (length (b ∷ bs)))
+    else (if is_ascii_digit b
+    then (let n = further (further (b - 48, bs)) in Ok (n.0, unblanked n.1))
+    else Err (length (b ∷ bs)))

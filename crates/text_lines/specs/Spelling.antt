@@ -24,7 +24,8 @@ SpellsNumber w n = (w ≡ decimal n) × (n < 1000)
 abbrev pub CanGoOn : (List ℕ → Type 0) → List ℕ → Type 0
 CanGoOn Form xs = (more : List ℕ) × Form (xs ++ more)
 
--- a line of that form can go on up to the place where so many bytes are left, and not over the byte there
+-- a line of that form can go on up to the place where so many bytes are left, and not over the byte
+-- there
 pub record StopsAt (Form : List ℕ → Type 0) (xs : List ℕ) (left : ℕ) : Type 0 where
   pub good : List ℕ
   pub bad : List ℕ

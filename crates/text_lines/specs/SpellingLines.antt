@@ -1,5 +1,6 @@
 -- A line in its own words: what counts of it, with gaps around, and maybe a comment behind.
-use Rattle.std.specs.Prelude.{◌≡◌, ℕ, ◌<◌, Bool, false, true, not, ◌==◌, ◌&&◌, List, [], ◌∷◌, ◌++◌, length}
+use Rattle.std.specs.Prelude.{◌≡◌, ℕ, ◌<◌, Bool, false, true, not, ◌==◌, ◌&&◌, List, [], ◌∷◌, ◌++◌}
+use Rattle.std.specs.Prelude.{length}
 use Rattle.text_lines.specs.Bytes.{is_blank, is_allowed, is_tight}
 use Rattle.text_lines.specs.Spelling.{IsRun, IsGap}
 

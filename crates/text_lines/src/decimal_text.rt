@@ -23,8 +23,8 @@ fn digits(text: &[u8], max: u64) -> Option<u64>
     Some(number as u64)
 }
 
-/// The number that the text spells: digits, with no 0 in front of another, at most `max`. `None` comes
-/// exactly where it spells no such number.
+/// The number that the text spells: digits, with no leading 0, at most `max`. `None` if it spells
+/// no such number.
 pub fn decimal(text: &[u8], max: u32) -> Option<u32>
     ensures value { result ≡ decimal_of max text.now }
     ensures bound { IfSome result (λ n. n ≤ max) }

@@ -1,12 +1,12 @@
 //! Texts by lines: what of a line counts, and how its words, signs and numbers are read.
 //!
 //! A reader goes over a line from left to right. Each part of a form takes its bytes and the blanks
-//! behind them, and gives what is left; where the line can't go on, it answers how many bytes were
+//! after them, and gives what is left; where the line can't go on, it answers how many bytes were
 //! left there. So the place of a fault is known without a count that is carried along.
 //!
-//! It owns lines and comments (`specs/Lines.antt`), kinds of bytes (`specs/Bytes.antt`), the readers
-//! (`specs/Reading.antt`) and numbers (`specs/Numbers.antt`). It may know no section, no option and no
-//! command of any text.
+//! It owns lines and comments (`specs/Lines.antt`), kinds of bytes (`specs/Bytes.antt`), the
+//! readers (`specs/Reading.antt`) and numbers (`specs/Numbers.antt`). It may know no section, no
+//! option and no command of any text.
 #![tactic(auto)]
 
 mod bytes;

@@ -5,7 +5,7 @@ ghost use Rattle.std.specs.List.{position};
 ghost use Rattle.std.specs.Str.Lines.{lines, strip_carriage_return};
 ghost use Rattle.text_lines.specs.Bytes.{is_allowed as is_allowed_byte};
 ghost use Rattle.text_lines.specs.Lines as spec;
-ghost use Rattle.text_lines.specs.Seen.{line_seen};
+ghost use Rattle.text_lines.specs.Views.{line_seen};
 ghost use Rattle.text_lines.specs.Fits.{FitsLine};
 
 use crate::bytes::{is_allowed, is_blank, unblanked};
@@ -15,11 +15,11 @@ use crate::bytes::{is_allowed, is_blank, unblanked};
 pub enum TextLine<'a> {
     /// It has blanks and a comment at most.
     Empty,
-    /// Outside its comment stands a byte that isn't a tab or one of the printed ones of ASCII; the first
-    /// of them stands so many bytes behind the line's begin.
+    /// Outside its comment stands a byte that isn't a tab or one of the printed ones of ASCII; the
+    /// first of them stands that many bytes after the line's beginning.
     Forbidden(usize),
-    /// Its words, without comment and with blanks at neither end, and how many bytes the line has up to
-    /// their end.
+    /// Its words, without comment and with blanks at neither end, and how many bytes the line has
+    /// up to their end.
     Words(&'a [u8], usize),
 }
 
@@ -89,8 +89,8 @@ fn without_return(line: &[u8]) -> &[u8]
     }
 }
 
-/// The first line of a text that isn't empty, without its LF and a CR before that, and the text behind
-/// it.
+/// The first line of a text that isn't empty, without its LF and a CR before that, and the text
+/// after it.
 pub fn cut_line(text: &[u8]) -> (&[u8], &[u8])
     requires { 0 < length text.now }
     ensures lines { lines text.now ≡ result.0.now ∷ lines result.1.now }

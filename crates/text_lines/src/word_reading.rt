@@ -5,7 +5,7 @@ ghost use Rattle.std.specs.Option.{option_copied};
 ghost use Rattle.text_lines.specs.Bytes.{takes, front, behind};
 ghost use Rattle.text_lines.specs.Reading as spec;
 ghost use Rattle.text_lines.specs.Reading.{Gives};
-ghost use Rattle.text_lines.specs.Seen.{word_text};
+ghost use Rattle.text_lines.specs.Views.{word_text};
 
 use crate::bytes::{WordKind, unblanked, word_len};
 
@@ -18,7 +18,7 @@ pub struct Word<'a> {
     pub left: usize,
 }
 
-/// One sign, and the blanks behind it. An error says how many bytes were left where another stood.
+/// One sign, and the blanks after it. An error says how many bytes were left where another stood.
 #[tactic(auto, unfolding(crate::specs::Reading::sign_at))]
 pub fn sign(bytes: &[u8], wanted: u8) -> Result<&[u8], usize>
     ensures { Gives (λ x. x.now) result (spec.sign_at wanted bytes.now) }
@@ -45,7 +45,7 @@ pub fn begins(bytes: &[u8], wanted: u8) -> bool
     }
 }
 
-/// What follows one sign and the blanks behind it. `None` comes exactly where the sign doesn't stand there.
+/// What follows one sign and the blanks after it. `None` if the sign doesn't stand there.
 #[tactic(auto, unfolding(crate::specs::Reading::maybe_sign_at))]
 pub fn maybe_sign(bytes: &[u8], wanted: u8) -> Option<&[u8]>
     ensures { option_copied result ≡ spec.maybe_sign_at wanted bytes.now }
@@ -98,7 +98,7 @@ fn further(number: u16, bytes: &[u8]) -> (u16, &[u8])
     }
 }
 
-/// A number of one to three digits, with no 0 in front of another, and the blanks behind it.
+/// A number of one to three digits, with no leading 0, and the blanks after it.
 #[tactic(auto, unfolding(crate::specs::Reading::number_at))]
 pub fn number(bytes: &[u8]) -> Result<(u16, &[u8]), usize>
     ensures gives { Gives (λ x. (x.0, x.1.now)) result (spec.number_at bytes.now) }
@@ -118,7 +118,7 @@ pub fn number(bytes: &[u8]) -> Result<(u16, &[u8]), usize>
     }
 }
 
-/// The longest run of bytes of that kind, which may be empty, and the blanks behind it.
+/// The longest run of bytes of that kind, which may be empty, and the blanks after it.
 pub fn run(bytes: &[u8], kind: WordKind) -> (Word<'_>, &[u8])
     ensures { (word_text result.0, result.1.now) ≡ spec.run_at (takes kind) bytes.now }
 {

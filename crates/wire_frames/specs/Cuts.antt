@@ -10,13 +10,16 @@ IsStop (Refused place len) = Unit {0}
 IsStop call = ⊥
 
 -- a framer's parts, with this limit in force, are the result of these calls and then of that answer
-pub record StoppedAt (first limit : ℕ) (parts : FramerParts) (answer : Call) (calls : List Call) : Type 0 where
+pub record StoppedAt (first limit : ℕ) (parts : FramerParts) (answer : Call) (calls : List Call)
+    : Type 0 where
   pub stands : StandsFor first parts (answer ∷ calls)
   pub stop : IsStop answer
   pub limit_is : parts.limit ≡ limit
 
--- two framers stopped alike: with the same answer, after the same bodies, and with the same rest where they wait for more
-pub record StoppedAlike (p q : FramerParts) (x y : Call) (bodies others : List (List ℕ)) : Type 0 where
+-- two framers stopped alike: with the same answer, after the same bodies, and with the same rest
+-- where they wait for more
+pub record StoppedAlike (p q : FramerParts) (x y : Call) (bodies others : List (List ℕ))
+    : Type 0 where
   pub answers : x ≡ y
   pub bodies_are : bodies ≡ others
   pub rests : x ≡ Waited → p.rest ≡ q.rest

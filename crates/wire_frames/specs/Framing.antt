@@ -15,9 +15,11 @@ frames bodies = flat_map frame bodies
 abbrev pub length_field : List ℕ → ℕ
 length_field bytes = from_be_bytes w32 (take 4 bytes)
 
--- less than a frame within the limit: fewer bytes than a length, or a length within the limit and fewer bytes than it names
+-- less than a frame within the limit: fewer bytes than a length, or a length within the limit and
+-- fewer bytes than it names
 abbrev pub IsPartial : ℕ → List ℕ → Type 0
-IsPartial limit bytes = (length bytes < 4) ⊎ ((length_field bytes ≤ limit) × (length bytes < 4 + length_field bytes))
+IsPartial limit bytes =
+    (length bytes < 4) ⊎ ((length_field bytes ≤ limit) × (length bytes < 4 + length_field bytes))
 
 -- a length above the limit stands at the front
 pub record IsTooLong (limit : ℕ) (bytes : List ℕ) : Type 0 where

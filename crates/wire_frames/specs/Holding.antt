@@ -1,8 +1,10 @@
 -- How much a framer holds.
-use Rattle.std.specs.Prelude.{◌≡◌, ℕ, ◌+◌, ◌≤◌, Bool, true, false, List, [], ◌∷◌, length, if◌then◌else◌}
+use Rattle.std.specs.Prelude.{◌≡◌, ℕ, ◌+◌, ◌≤◌, Bool, true, false, List, [], ◌∷◌, length}
+use Rattle.std.specs.Prelude.{if◌then◌else◌}
 use Rattle.wire_frames.specs.Calls.{Call, Fed, Waited, Refused, is_refused, limit_after}
 
--- after the latest piece `next` answered that there was less than a frame, or that a length was too long
+-- after the latest piece `next` answered that there was less than a frame, or that a length was too
+-- long
 abbrev pub is_settled : List Call → Bool
 is_settled [] = true
 is_settled (Fed piece ∷ calls) = false

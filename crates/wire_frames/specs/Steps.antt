@@ -15,11 +15,14 @@ pub record IsFirst (limit : ℕ) (body bytes : List ℕ) : Type 0 where
   pub front : bytes ≡ frame body ++ drop (4 + length body) bytes
   pub within : length body ≤ limit
 
--- which of the three stands at the front of the rest: a frame, less than one, or a length above the limit
+-- which of the three stands at the front of the rest: a frame, less than one, or a length above the
+-- limit
 abbrev pub Answers : FramerParts → FrameStep → Type 0
-Answers f (Frame place body) = (place ≡ f.given) × (f.over ≡ false) × IsFirst f.limit body.now f.rest
+Answers f (Frame place body) =
+    (place ≡ f.given) × (f.over ≡ false) × IsFirst f.limit body.now f.rest
 Answers f More = (f.over ≡ false) × IsPartial f.limit f.rest
-Answers f (TooLong place len) = (place ≡ f.given) × IsTooLong f.limit f.rest × (len ≡ length_field f.rest)
+Answers f (TooLong place len) =
+    (place ≡ f.given) × IsTooLong f.limit f.rest × (len ≡ length_field f.rest)
 
 -- the parts after the answer
 abbrev pub after_next : FramerParts → FrameStep → FramerParts

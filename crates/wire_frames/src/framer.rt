@@ -1,6 +1,7 @@
 //! Cutting a stream into frames.
 
-ghost use Rattle.std.specs.Prelude.{◌≡◌, ◌+◌, ◌^◌, ◌<◌, ◌≤◌, [], false, drop, length, take, vec_capacity, OnOk, OnErr};
+ghost use Rattle.std.specs.Prelude.{◌≡◌, ◌+◌, ◌^◌, ◌<◌, ◌≤◌, [], false, drop, length, take};
+ghost use Rattle.std.specs.Prelude.{vec_capacity, OnOk, OnErr};
 ghost use Rattle.std.specs.Borrow.{sem};
 ghost use Rattle.std.specs.Int.{w32, to_be_bytes};
 ghost use Rattle.wire_frames.specs.Framing.{length_field};
@@ -15,9 +16,9 @@ use std::marker::Model;
 
 /// Cuts a stream into frames.
 ///
-/// It holds the rest of the stream, and the frames given since the latest piece until the next one is
-/// fed. Contracts see it as `FramerParts`, the length of its buffer among them, and each call says that
-/// these are the result of the calls so far.
+/// It holds the rest of the stream, and the frames given since the latest piece until the next one
+/// is fed. Contracts see it as `FramerParts`, the length of its buffer among them, and each call
+/// says that these are the result of the calls so far.
 #[derive(Drop)]
 pub struct Framer {
     bytes: Vec<u8>,
@@ -49,8 +50,8 @@ impl Model for Framer {
         × (f.over ≡ true → IsTooLong f.limit (drop f.given f.bytes.items)) };
 }
 
-/// What stands at the front of the rest of a stream. A place is the offset of a frame in its stream, in
-/// bytes.
+/// What stands at the front of the rest of a stream. A place is the offset of a frame in its
+/// stream, in bytes.
 #[derive(Clone, Copy, Debug, PartialEq, Eq)]
 pub enum FrameStep<'a> {
     /// A whole frame within the limit, which counts as given from now on.
@@ -96,8 +97,8 @@ fn drop_given(bytes: &mut Vec<u8>, gone: &mut u64, given: &mut usize)
 }
 
 impl Framer {
-    /// A framer at the beginning of a stream whose frames have bodies of at most `limit` bytes. Later
-    /// calls of `feed` take their memory from `alloc`; no other call takes any.
+    /// A framer at the beginning of a stream whose frames have bodies of at most `limit` bytes.
+    /// Later calls of `feed` take their memory from `alloc`; no other call takes any.
     pub fn new(alloc: Global, limit: u32) -> Framer
         requires { limit ≤ BODY_LIMIT }
         ensures begun { result ≡ begun limit }
@@ -112,8 +113,8 @@ impl Framer {
         }
     }
 
-    /// Appends the next piece of the stream, which has fewer than 2^63 bytes in all. After a `TooLong`
-    /// it changes nothing and answers `Ok`. On `OutOfMemory` the framer is unchanged.
+    /// Appends the next piece of the stream, which has fewer than 2^63 bytes in all. After a
+    /// `TooLong` it changes nothing and answers `Ok`. On `OutOfMemory` the framer is unchanged.
     pub fn feed(&mut self, piece: &[u8]) -> Result<(), OutOfMemory>
         requires { self.old.given + length self.old.rest + length piece.now < 2 ^ 63 }
         ensures ok { OnOk result (self.new ≡ fed self.old piece.now) }
@@ -187,7 +188,8 @@ impl Framer {
         }
     }
 
-    /// Lets later frames have bodies of at most `limit` bytes, which is no less than the limit so far.
+    /// Lets later frames have bodies of at most `limit` bytes, which is no less than the limit so
+    /// far.
     pub fn raise_limit(&mut self, limit: u32)
         requires rises { self.old.limit ≤ limit }
         requires within { limit ≤ BODY_LIMIT }

@@ -18,14 +18,24 @@ loop-chunk-preserved c =
     let put = c.in_ok-put_part-2.ensures.ok in
     record {
       size = steps.0 ∙ invariant.size;
-      begins = begins_more c.args.out.now out (part_frame mark.Chunk c.args.clip c.args.seq chunk) new invariant.begins put;
-      frames = chunk_put c.args.clip c.args.seq (c.put_part.new.out ++ chunk_frames c.args.clip c.args.seq (chunks_of c.args.bytes.now)) out new rest chunk (chunks_rest c.next.new.self)
-          invariant.frames steps.1.0 (steps.1.1 ∙ ap (λ (n : ℕ). min n (length rest)) invariant.size) steps.1.2 put;
+      begins =
+          begins_more c.args.out.now out (part_frame mark.Chunk c.args.clip c.args.seq chunk) new
+          invariant.begins put;
+      frames =
+          chunk_put c.args.clip c.args.seq
+          (c.put_part.new.out ++ chunk_frames c.args.clip c.args.seq (chunks_of c.args.bytes.now))
+          out new rest chunk (chunks_rest c.next.new.self)
+          invariant.frames steps.1.0
+          (steps.1.1 ∙ ap (λ (n : ℕ). min n (length rest)) invariant.size) steps.1.2 put;
     }
 
 pub returns-clause-ok : goal.returns-clause-ok
 returns-clause-ok c =
     on_ok_weaker c.put_part-2.result
-    (λ last. all_put c.args.clip c.args.seq c.args.bytes.now c.as_bytes.result.now c.args.out.now c.put_part.new.out c.loop-chunk.out (chunks_rest c.loop-chunk.chunk-iterator) c.put_part-2.new.out
-    (c.as_bytes.ensures.value ∙ c.format-size.ensures.text) c.in_ok-put_part.ensures.ok c.loop-chunk.invariant.frames c.in-None.ensures.steps.1.0 last)
+    (λ last.
+    all_put c.args.clip c.args.seq c.args.bytes.now c.as_bytes.result.now c.args.out.now
+    c.put_part.new.out c.loop-chunk.out (chunks_rest c.loop-chunk.chunk-iterator)
+    c.put_part-2.new.out
+    (c.as_bytes.ensures.value ∙ c.format-size.ensures.text) c.in_ok-put_part.ensures.ok
+    c.loop-chunk.invariant.frames c.in-None.ensures.steps.1.0 last)
     c.put_part-2.ensures.ok

@@ -8,5 +8,6 @@ abbrev pub invariant-loop-chunk : goal.invariant-loop-chunk
 invariant-loop-chunk l = record {
   size : chunks_size l.chunk-iterator ≡ full_chunk;
   begins : take (length l.fn.out) l.out ≡ l.fn.out;
-  frames : l.out ++ chunk_frames l.clip l.seq (chunks_of (chunks_rest l.chunk-iterator)) ≡ l.initial.out ++ chunk_frames l.clip l.seq (chunks_of l.bytes);
+  frames : l.out ++ chunk_frames l.clip l.seq (chunks_of (chunks_rest l.chunk-iterator))
+      ≡ l.initial.out ++ chunk_frames l.clip l.seq (chunks_of l.bytes);
 }

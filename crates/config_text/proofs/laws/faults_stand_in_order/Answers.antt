@@ -1,4 +1,5 @@
-use Rattle.config_text.proofs.FaultOrder.{known_in_order, screen_in_order, alias_in_order, link_in_order, setting_in_order}
+use Rattle.config_text.proofs.FaultOrder.{known_in_order, screen_in_order, alias_in_order}
+use Rattle.config_text.proofs.FaultOrder.{link_in_order, setting_in_order}
 use Rattle.config_text.proofs.HotkeyFaultOrder.{hotkey_in_order}
 use Rattle.config_text.proofs.laws.faults_stand_in_order.Goals as goal
 

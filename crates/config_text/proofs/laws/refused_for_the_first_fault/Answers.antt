@@ -1,4 +1,5 @@
-use Rattle.config_text.proofs.FirstFaults.{first_of_known, first_of_screen, first_of_alias, first_of_link, first_of_setting}
+use Rattle.config_text.proofs.FirstFaults.{first_of_known, first_of_screen, first_of_alias}
+use Rattle.config_text.proofs.FirstFaults.{first_of_link, first_of_setting}
 use Rattle.config_text.proofs.FirstHotkeyFaults.{first_of_hotkey}
 use Rattle.config_text.proofs.laws.refused_for_the_first_fault.Goals as goal
 

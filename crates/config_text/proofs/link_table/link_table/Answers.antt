@@ -6,8 +6,18 @@ use Rattle.config_text.proofs.link_table.link_table.Goals as goal
 
 pub loop-link-preserved : goal.loop-link-preserved
 loop-link-preserved c =
-    let past : Link = record { from = record { 0 = 0 }; side = side.Left; range = record { a = 0; b = 0 }; to = record { 0 = 0 }; onto = record { a = 0; b = 0 } } in
+    let past : Link =
     record {
-      table = rw (add-one, take-suc c.args.links.now c.loop-link.link-index past c.loop-link-test.true) (c.put_link.ensures.added _ c.loop-link.invariant.table);
+      from = record { 0 = 0 };
+      side = side.Left;
+      range = record { a = 0; b = 0 };
+      to = record { 0 = 0 };
+      onto = record { a = 0; b = 0 };
+    }
+    in
+    record {
+      table =
+          rw (add-one, take-suc c.args.links.now c.loop-link.link-index past c.loop-link-test.true)
+          (c.put_link.ensures.added _ c.loop-link.invariant.table);
       cells = c.put_link.ensures.same_length ∙ c.loop-link.invariant.cells;
     }

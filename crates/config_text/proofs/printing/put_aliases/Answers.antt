@@ -7,10 +7,12 @@ use Rattle.config_text.proofs.printing.put_aliases.Goals as goal
 
 pub loop-screen-preserved : goal.loop-screen-preserved
 loop-screen-preserved c =
-    number_added (aliases_of c.args.config.now) c.args.config.now c.loop-screen.screen c.loop-screen.out c.put_aliases_of.new.out _
+    number_added (aliases_of c.args.config.now) c.args.config.now c.loop-screen.screen
+    c.loop-screen.out c.put_aliases_of.new.out _
     (omega arith) c.loop-screen.invariant c.in_ok-put_aliases_of.ensures
 
 pub returns : goal.returns
 returns c =
-    parts_done (aliases_of c.args.config.now) (numbers_of c.args.config.now) c.loop-screen.screen c.loop-screen.out _
+    parts_done (aliases_of c.args.config.now) (numbers_of c.args.config.now) c.loop-screen.screen
+    c.loop-screen.out _
     (omega (arith, count_of_numbers c.args.config.now)) c.loop-screen.invariant

@@ -7,9 +7,12 @@ use Rattle.config_text.proofs.printing.put_side.Goals as goal
 
 pub loop-a-preserved : goal.loop-a-preserved
 loop-a-preserved c =
-    hundredth_added (link_at c.args.config.now c.args.from c.args.side) c.loop-a.a c.loop-a.out c.put_link_at.new.out _
+    hundredth_added (link_at c.args.config.now c.args.from c.args.side) c.loop-a.a c.loop-a.out
+    c.put_link_at.new.out _
     (omega arith) c.loop-a.invariant c.in_ok-put_link_at.ensures
 
 pub returns : goal.returns
 unfolding side_links
-returns c = parts_done (link_at c.args.config.now c.args.from c.args.side) hundredths c.loop-a.a c.loop-a.out _ (omega (arith, count_of_hundredths)) c.loop-a.invariant
+returns c =
+    parts_done (link_at c.args.config.now c.args.from c.args.side) hundredths c.loop-a.a
+    c.loop-a.out _ (omega (arith, count_of_hundredths)) c.loop-a.invariant

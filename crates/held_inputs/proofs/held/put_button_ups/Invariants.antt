@@ -7,7 +7,8 @@ use Rattle.held_inputs.proofs.held.put_button_ups.Given as goal
 
 abbrev pub invariant-loop-b : goal.invariant-loop-b
 invariant-loop-b g l = record {
-  printed : g.B.Buffer.content l.lines ≡ g.B.Buffer.content l.fn.lines ++ flat_map line_of (map ButtonUp (places l.buttons l.b));
+  printed : g.B.Buffer.content l.lines
+      ≡ g.B.Buffer.content l.fn.lines ++ flat_map line_of (map ButtonUp (places l.buttons l.b));
   bound : length (g.B.Buffer.content l.lines) ≤ length (g.B.Buffer.content l.fn.lines) + 16 * l.b;
   capacity : g.B.Buffer.capacity l.fn.lines ≤ g.B.Buffer.capacity l.lines;
 }

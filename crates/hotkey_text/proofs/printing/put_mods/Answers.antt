@@ -6,5 +6,6 @@ use Rattle.hotkey_text.proofs.printing.put_mods.Goals as goal
 
 pub loop-class-preserved : goal.loop-class-preserved
 loop-class-preserved c =
-    part_added (mod_text c.args.mods) all_classes c.loop-class.class-index _ c.loop-class.out c.put_mod.new.out _
+    part_added (mod_text c.args.mods) all_classes c.loop-class.class-index _ c.loop-class.out
+    c.put_mod.new.out _
     (omega arith) c.loop-class.invariant c.in_ok-put_mod.ensures

@@ -5,4 +5,6 @@ use Rattle.hotkey_text.specs.Printed.{mod_text, mods_text}
 use Rattle.hotkey_text.proofs.printing.put_mods.Given as goal
 
 abbrev pub invariant-loop-class : goal.invariant-loop-class
-invariant-loop-class l = l.out ++ flat_map (mod_text l.mods) (drop l.class-index all_classes) ≡ l.fn.out ++ mods_text l.mods
+invariant-loop-class l =
+    l.out ++ flat_map (mod_text l.mods) (drop l.class-index all_classes)
+    ≡ l.fn.out ++ mods_text l.mods

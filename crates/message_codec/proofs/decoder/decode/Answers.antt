@@ -1,4 +1,5 @@
-use Rattle.std.proofs.Common.{◌≡◌, ◌<◌, ◌-◌, ◌∙◌, List, ℕ, [], Ok, Err, length, refl, sym, ap, subst, arith, rules}
+use Rattle.std.proofs.Common.{◌≡◌, ◌<◌, ◌-◌, ◌∙◌, List, ℕ, [], Ok, Err, length, refl, sym, ap}
+use Rattle.std.proofs.Common.{subst, arith, rules}
 use Rattle.std.proofs.lemmas.List.{nil_from_length}
 use Rattle.message_codec.specs.Fields.{Field}
 use Rattle.message_codec.specs.declared.reading.ReadError.{ReadError}
@@ -13,26 +14,40 @@ use Rattle.message_codec.proofs.RefusalLaws.{never, misfit_faults}
 use Rattle.message_codec.proofs.decoder.decode.Goals as goal
 
 pub returns-in_default-clause-bad : goal.returns-in_default-clause-bad
-returns-in_default-clause-bad c code rest begins = no_code c.args.from c.args.body.now code rest (search rules) begins
+returns-in_default-clause-bad c code rest begins =
+    no_code c.args.from c.args.body.now code rest (search rules) begins
 
 pub returns-then-not-is_sent_by-clause-bad : goal.returns-then-not-is_sent_by-clause-bad
 returns-then-not-is_sent_by-clause-bad c =
     let found = c.in-Some.code in
     let not_sent : SentBy found c.args.from → ⊥ = λ s. never (c.if-not-is_sent_by.ensures.1 s) in (
       (found, _, code_at-begins c.args.from c.args.body.now found (sym c.in-Some.ensures)),
-      λ code rest sent begins. no_sent c.args.from c.args.body.now found code rest (sym c.in-Some.ensures) not_sent sent begins,
+      λ code rest sent begins.
+          no_sent c.args.from c.args.body.now found code rest (sym c.in-Some.ensures) not_sent sent
+          begins,
     )
 
 pub split_at-requires : goal.split_at-requires
-split_at-requires c = omega (arith, ap length c.text.ensures, text_fits c.args.from c.args.body.now c.in-Some.code (sym c.in-Some.ensures))
+split_at-requires c =
+    omega (
+      arith,
+      ap length c.text.ensures,
+      text_fits c.args.from c.args.body.now c.in-Some.code (sym c.in-Some.ensures),
+    )
 
 pub overflow_sub-at : goal.overflow_sub-at
 overflow_sub-at c =
     let left = c.in-Err-Short.left in
     let fields-at = c.split_at.result.1.now in
     let sent : SentBy c.in-Some.code c.args.from = search rules in
-    let read = subst (λ (e : ReadError). Fails (has_list c.in-Some.code) e (read_fields (kinds c.in-Some.code) fields-at)) c.in-Err-Short.field-0-is c.in-Err-Short.ensures in
-    let reads = reads_at c.args.from c.args.body.now c.in-Some.code c.text.result.now fields-at (Err left) (sym c.in-Some.ensures) sent c.text.ensures c.split_at.ensures.back read in
+    let read =
+    subst
+    (λ (e : ReadError).
+    Fails (has_list c.in-Some.code) e (read_fields (kinds c.in-Some.code) fields-at))
+    c.in-Err-Short.field-0-is c.in-Err-Short.ensures in
+    let reads =
+    reads_at c.args.from c.args.body.now c.in-Some.code c.text.result.now fields-at (Err left)
+    (sym c.in-Some.ensures) sent c.text.ensures c.split_at.ensures.back read in
     left_within c.args.from c.args.body.now left (λ i. omega (arith, c.type_inv.body i)) reads
 
 pub returns-in-Err-Short-clause-bad : goal.returns-in-Err-Short-clause-bad
@@ -41,16 +56,27 @@ returns-in-Err-Short-clause-bad c =
     let left = c.in-Err-Short.left in
     let fields-at = c.split_at.result.1.now in
     let sent : SentBy c.in-Some.code c.args.from = search rules in
-    let read = subst (λ (e : ReadError). Fails (has_list c.in-Some.code) e (read_fields (kinds c.in-Some.code) fields-at)) c.in-Err-Short.field-0-is c.in-Err-Short.ensures in
-    let reads = reads_at c.args.from body c.in-Some.code c.text.result.now fields-at (Err left) (sym c.in-Some.ensures) sent c.text.ensures c.split_at.ensures.back read in
-    from_faults (bad.Short (length body - left)) c.args.from body (λ i. omega (arith, c.type_inv.body i)) (left, reads, refl)
+    let read =
+    subst
+    (λ (e : ReadError).
+    Fails (has_list c.in-Some.code) e (read_fields (kinds c.in-Some.code) fields-at))
+    c.in-Err-Short.field-0-is c.in-Err-Short.ensures in
+    let reads =
+    reads_at c.args.from body c.in-Some.code c.text.result.now fields-at (Err left)
+    (sym c.in-Some.ensures) sent c.text.ensures c.split_at.ensures.back read in
+    from_faults (bad.Short (length body - left)) c.args.from body
+    (λ i. omega (arith, c.type_inv.body i)) (left, reads, refl)
 
 pub overflow_sub-at-then-not-is_empty : goal.overflow_sub-at-then-not-is_empty
 overflow_sub-at-then-not-is_empty c =
     let d = c.in-Ok.found in
     let sent : SentBy c.in-Some.code c.args.from = search rules in
-    let reads = reads_at c.args.from c.args.body.now c.in-Some.code c.text.result.now c.split_at.result.1.now (Ok (draft_fields d.0, d.1.now)) (sym c.in-Some.ensures) sent c.text.ensures c.split_at.ensures.back c.in-Ok.ensures.1 in
-    rest_within c.args.from c.args.body.now (draft_fields d.0) d.1.now (λ i. omega (arith, c.type_inv.body i)) reads
+    let reads =
+    reads_at c.args.from c.args.body.now c.in-Some.code c.text.result.now
+    c.split_at.result.1.now (Ok (draft_fields d.0, d.1.now)) (sym c.in-Some.ensures) sent
+    c.text.ensures c.split_at.ensures.back c.in-Ok.ensures.1 in
+    rest_within c.args.from c.args.body.now (draft_fields d.0) d.1.now
+    (λ i. omega (arith, c.type_inv.body i)) reads
 
 pub returns-then-not-is_empty-clause-bad : goal.returns-then-not-is_empty-clause-bad
 returns-then-not-is_empty-clause-bad c =
@@ -58,8 +84,12 @@ returns-then-not-is_empty-clause-bad c =
     let d = c.in-Ok.found in
     let sent : SentBy c.in-Some.code c.args.from = search rules in
     let some : 0 < length d.1.now = search rules in
-    let reads = reads_at c.args.from body c.in-Some.code c.text.result.now c.split_at.result.1.now (Ok (draft_fields d.0, d.1.now)) (sym c.in-Some.ensures) sent c.text.ensures c.split_at.ensures.back c.in-Ok.ensures.1 in
-    from_faults (bad.Trailing (length body - length d.1.now)) c.args.from body (λ i. omega (arith, c.type_inv.body i)) (draft_fields d.0, d.1.now, reads, some, refl)
+    let reads =
+    reads_at c.args.from body c.in-Some.code c.text.result.now c.split_at.result.1.now
+    (Ok (draft_fields d.0, d.1.now)) (sym c.in-Some.ensures) sent c.text.ensures
+    c.split_at.ensures.back c.in-Ok.ensures.1 in
+    from_faults (bad.Trailing (length body - length d.1.now)) c.args.from body
+    (λ i. omega (arith, c.type_inv.body i)) (draft_fields d.0, d.1.now, reads, some, refl)
 
 pub returns-in-Ok-finish-clause-found : goal.returns-in-Ok-finish-clause-found
 returns-in-Ok-finish-clause-found c =
@@ -67,19 +97,31 @@ returns-in-Ok-finish-clause-found c =
     let m = c.in-Ok-finish in
     let sent : SentBy c.in-Some.code c.args.from = search rules in
     let ends : length d.1.now ≡ 0 = search rules in
-    let r = reads_at c.args.from c.args.body.now c.in-Some.code c.text.result.now c.split_at.result.1.now _ (sym c.in-Some.ensures) sent c.text.ensures c.split_at.ensures.back
-    (c.in-Ok.ensures.1 ∙ ap (λ (fs : List Field). Ok (fs, d.1.now)) (sym m.ensures.ok.1) ∙ ap (λ (t : List ℕ). Ok (fields m.msg, t)) (nil_from_length d.1.now ends)) in
-    read_spells c.args.from m.msg c.args.body.now r (λ i. omega (arith, c.type_inv.body i)) (m.ensures.ok.0 ∙ c.in-Ok.ensures.0)
+    let r =
+    reads_at c.args.from c.args.body.now c.in-Some.code c.text.result.now
+    c.split_at.result.1.now _ (sym c.in-Some.ensures) sent c.text.ensures
+    c.split_at.ensures.back
+    (c.in-Ok.ensures.1 ∙ ap (λ (fs : List Field). Ok (fs, d.1.now)) (sym m.ensures.ok.1)
+    ∙ ap (λ (t : List ℕ). Ok (fields m.msg, t)) (nil_from_length d.1.now ends))
+    in
+    read_spells c.args.from m.msg c.args.body.now r (λ i. omega (arith, c.type_inv.body i))
+    (m.ensures.ok.0 ∙ c.in-Ok.ensures.0)
 
 pub returns-in-Err-clause-bad : goal.returns-in-Err-clause-bad
 returns-in-Err-clause-bad c =
     let d = c.in-Ok.found in
     let sent : SentBy c.in-Some.code c.args.from = search rules in
     let ends : length d.1.now ≡ 0 = search rules in
-    let r = reads_at c.args.from c.args.body.now c.in-Some.code c.text.result.now c.split_at.result.1.now (Ok (draft_fields d.0, [])) (sym c.in-Some.ensures) sent c.text.ensures c.split_at.ensures.back
-    (c.in-Ok.ensures.1 ∙ ap (λ (t : List ℕ). Ok (draft_fields d.0, t)) (nil_from_length d.1.now ends)) in
+    let r =
+    reads_at c.args.from c.args.body.now c.in-Some.code c.text.result.now
+    c.split_at.result.1.now (Ok (draft_fields d.0, [])) (sym c.in-Some.ensures) sent
+    c.text.ensures c.split_at.ensures.back
+    (c.in-Ok.ensures.1
+    ∙ ap (λ (t : List ℕ). Ok (draft_fields d.0, t)) (nil_from_length d.1.now ends))
+    in
     from_faults c.in-Err.bad c.args.from c.args.body.now (λ i. omega (arith, c.type_inv.body i))
-    (misfit_faults c.in-Err.bad c.args.from c.args.body.now (draft_code d.0) (draft_fields d.0) r c.in-Ok.ensures.0 c.in-Err.ensures.err)
+    (misfit_faults c.in-Err.bad c.args.from c.args.body.now (draft_code d.0) (draft_fields d.0) r
+    c.in-Ok.ensures.0 c.in-Err.ensures.err)
 
 pub returns-in-Err-Memory-clause-bad : goal.returns-in-Err-Memory-clause-bad
 returns-in-Err-Memory-clause-bad c =
@@ -88,5 +130,9 @@ returns-in-Err-Memory-clause-bad c =
       rest = _;
       sent = search rules;
       begins = code_at-begins c.args.from c.args.body.now found (sym c.in-Some.ensures);
-      list = subst (λ (e : ReadError). Fails (has_list found) e (read_fields (kinds found) c.split_at.result.1.now)) c.in-Err-Memory.field-0-is c.in-Err-Memory.ensures;
+      list =
+          subst
+          (λ (e : ReadError).
+          Fails (has_list found) e (read_fields (kinds found) c.split_at.result.1.now))
+          c.in-Err-Memory.field-0-is c.in-Err-Memory.ensures;
     }

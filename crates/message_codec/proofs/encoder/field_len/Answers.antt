@@ -6,4 +6,6 @@ use Rattle.message_codec.proofs.Putting.{length-spelled_words}
 use Rattle.message_codec.proofs.encoder.field_len.Goals as goal
 
 pub returns-in-Words-clause-value : goal.returns-in-Words-clause-value
-returns-in-Words-clause-value c = sym (length-spelled_words c.in-Words.words.now) ∙ ap (λ (p : FieldRef). length (spelled (seen p))) (sym c.in-Words.is)
+returns-in-Words-clause-value c =
+    sym (length-spelled_words c.in-Words.words.now)
+    ∙ ap (λ (p : FieldRef). length (spelled (seen p))) (sym c.in-Words.is)

@@ -5,4 +5,5 @@ use Rattle.message_codec.specs.Showing.{after_blank}
 use Rattle.message_codec.proofs.show_line.put_words.Given as goal
 
 abbrev pub invariant-loop-word : goal.invariant-loop-word
-invariant-loop-word l = l.out ≡ l.fn.out ++ flat_map (λ n. after_blank (decimal n)) (take l.word-index l.words)
+invariant-loop-word l =
+    l.out ≡ l.fn.out ++ flat_map (λ n. after_blank (decimal n)) (take l.word-index l.words)

@@ -5,5 +5,6 @@ use Rattle.option_table.proofs.printing.put_corners.Goals as goal
 
 pub loop-corner-preserved : goal.loop-corner-preserved
 loop-corner-preserved c =
-    part_added (corner_text c.args.set) single_corners c.loop-corner.corner-index _ c.loop-corner.out c.put_corner.new.out _
+    part_added (corner_text c.args.set) single_corners c.loop-corner.corner-index _
+    c.loop-corner.out c.put_corner.new.out _
     (omega arith) c.loop-corner.invariant c.in_ok-put_corner.ensures

@@ -6,5 +6,6 @@ use Rattle.option_table.proofs.printing.put_option_lines.Goals as goal
 
 pub loop-option-preserved : goal.loop-option-preserved
 loop-option-preserved c =
-    part_added (option_line c.args.tabs.now c.args.settings.now) options c.loop-option.option-index _ c.loop-option.out c.put_line.new.out _
+    part_added (option_line c.args.tabs.now c.args.settings.now) options c.loop-option.option-index
+    _ c.loop-option.out c.put_line.new.out _
     (omega arith) c.loop-option.invariant c.in_ok-put_line.ensures

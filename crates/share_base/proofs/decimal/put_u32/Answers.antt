@@ -8,4 +8,10 @@ pub put_digits-requires : goal.put_digits-requires
 put_digits-requires g c = omega (arith, digits_of_four c.args.number (omega arith))
 
 pub returns-clause-bound : goal.returns-clause-bound
-returns-clause-bound g c = omega (arith, digits_of_four c.args.number (omega arith), ap length c.put_digits.ensures.printed, length-append (g.B.Buffer.content c.args.out.now) (decimal c.args.number))
+returns-clause-bound g c =
+    omega (
+      arith,
+      digits_of_four c.args.number (omega arith),
+      ap length c.put_digits.ensures.printed,
+      length-append (g.B.Buffer.content c.args.out.now) (decimal c.args.number),
+    )

@@ -7,5 +7,6 @@ use Rattle.share_base.proofs.screen_name.all_parts.Goals as goal
 pub returns : goal.returns
 returns c =
     all_from_yields_List spec.is_part _ _ _ c.all.ensures.ran
-    (YieldsList-from_slice_split _ (λ b. b == 46) c.args.bytes.now c.split.ensures.rest c.split.ensures.done c.split.ensures.closure (λ x b q k. search rules))
+    (YieldsList-from_slice_split _ (λ b. b == 46) c.args.bytes.now c.split.ensures.rest
+    c.split.ensures.done c.split.ensures.closure (λ x b q k. search rules))
     (λ x b q k. search rules)

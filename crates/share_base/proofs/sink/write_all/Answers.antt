@@ -7,7 +7,11 @@ loop-at-preserved g c =
     let state = g.K.Sink.state in
     let l = c.loop-at in
     record {
-      within = front_fits l.at c.in-Took.n c.args.bytes.now c.loop-at-test.true c.in-Took.ensures.fits;
-      taken = front_grows (state c.args.out.now).taken (state l.out).taken (state c.write.new.self).taken l.at c.in-Took.n c.args.bytes.now l.invariant.taken c.in-Took.ensures.writes.takes;
+      within =
+          front_fits l.at c.in-Took.n c.args.bytes.now c.loop-at-test.true c.in-Took.ensures.fits;
+      taken =
+          front_grows (state c.args.out.now).taken (state l.out).taken
+          (state c.write.new.self).taken l.at c.in-Took.n c.args.bytes.now l.invariant.taken
+          c.in-Took.ensures.writes.takes;
       faults = c.in-Took.ensures.writes.counts ∙ l.invariant.faults;
     }

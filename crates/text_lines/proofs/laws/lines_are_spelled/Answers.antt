@@ -1,4 +1,5 @@
-use Rattle.text_lines.proofs.SpelledLines.{empty_takes, empty_again, content_takes, content_again, forbidden_takes, forbidden_again}
+use Rattle.text_lines.proofs.SpelledLines.{empty_takes, empty_again, content_takes, content_again}
+use Rattle.text_lines.proofs.SpelledLines.{forbidden_takes, forbidden_again}
 use Rattle.text_lines.proofs.laws.lines_are_spelled.Goals as goal
 
 pub returns : goal.returns

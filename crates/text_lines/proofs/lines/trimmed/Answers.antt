@@ -6,7 +6,9 @@ use Rattle.text_lines.proofs.lines.trimmed.Goals as goal
 
 pub returns-then-not-is_blank-clause-gives : goal.returns-then-not-is_blank-clause-gives
 returns-then-not-is_blank-clause-gives c =
-    let solid : bytes.is_blank (get_or c.loop-rest.rest.now (length c.loop-rest.rest.now - 1) 0) ≡ false = cc in
+    let solid : bytes.is_blank (get_or c.loop-rest.rest.now (length c.loop-rest.rest.now - 1) 0)
+    ≡ false =
+    cc in
     sym (trimmed_whole c.loop-rest.rest.now (omega arith) solid) ∙ c.loop-rest.invariant.same
 
 fewer : {a b c : ℕ} → a ≡ min (b - 1) b → b ≤ c → a ≤ c
@@ -14,11 +16,16 @@ fewer e h = omega arith
 
 pub loop-rest-preserved : goal.loop-rest-preserved
 loop-rest-preserved c =
-    let blank : bytes.is_blank (get_or c.loop-rest.rest.now (length c.loop-rest.rest.now - 1) 0) ≡ true = cc in
+    let blank : bytes.is_blank (get_or c.loop-rest.rest.now (length c.loop-rest.rest.now - 1) 0)
+    ≡ true =
+    cc in
     record {
       same = trimmed_cut c.loop-rest.rest.now (omega arith) blank ∙ c.loop-rest.invariant.same;
-      below = fewer (length-take (length c.loop-rest.rest.now - 1) c.loop-rest.rest.now) c.loop-rest.invariant.below;
+      below =
+          fewer (length-take (length c.loop-rest.rest.now - 1) c.loop-rest.rest.now)
+          c.loop-rest.invariant.below;
     }
 
 pub returns-clause-gives : goal.returns-clause-gives
-returns-clause-gives c = sym (trimmed_none c.loop-rest.rest.now (omega arith)) ∙ c.loop-rest.invariant.same
+returns-clause-gives c =
+    sym (trimmed_none c.loop-rest.rest.now (omega arith)) ∙ c.loop-rest.invariant.same

@@ -6,5 +6,7 @@ returns-clause-changes c = λ clip is. record {
   owner = is.owner;
   seq = is.seq;
   bytes = is.bytes;
-  dirty = taken_out c.args.self.now.dirty c.remove.new.self c.args.no.0 clip.dirty is.dirty c.remove.ensures;
+  dirty =
+      taken_out c.args.self.now.dirty c.remove.new.self c.args.no.0 clip.dirty is.dirty
+      c.remove.ensures;
 }

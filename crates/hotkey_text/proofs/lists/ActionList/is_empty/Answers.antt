@@ -7,4 +7,6 @@ negated true b e = ap not e
 negated false b e = ap not e
 
 pub returns : goal.returns
-returns c = negated c.is_none.result _ (sym c.is_none.ensures ∙ some_where_some c.args.self.now.rest c.args.self.now.formed)
+returns c =
+    negated c.is_none.result _
+    (sym c.is_none.ensures ∙ some_where_some c.args.self.now.rest c.args.self.now.formed)

@@ -6,4 +6,5 @@ use Rattle.option_table.proofs.settings.Settings.value.Goals as goal
 
 pub returns-in-None-clause-suits : goal.returns-in-None-clause-suits
 returns-in-None-clause-suits c =
-    subst (λ (r : RowText). suits (row_of c.args.option).form r.default ≡ true) (sym c.row.ensures) (default_suits c.args.option)
+    subst (λ (r : RowText). suits (row_of c.args.option).form r.default ≡ true) (sym c.row.ensures)
+    (default_suits c.args.option)

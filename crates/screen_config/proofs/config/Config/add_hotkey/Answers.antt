@@ -7,6 +7,15 @@ use Rattle.screen_config.proofs.config.Config.add_hotkey.Goals as goal
 
 pub invariant_of-self : goal.invariant_of-self
 invariant_of-self c =
-    let press = subst (λ (k : Configuration). list_all (is_action_among (length k.screens)) c.args.press.now ≡ true) (sym c.self.view_is) c.requires.press in
-    let release = subst (λ (k : Configuration). list_all (is_action_among (length k.screens)) c.args.release.now ≡ true) (sym c.self.view_is) c.requires.release in
-    sound_hotkey c.add.result _ c.args.trigger c.args.press.now c.args.release.now c.add.new.self c.add.ensures c.self.invariant c.requires.trigger press release
+    let press =
+    subst
+    (λ (k : Configuration). list_all (is_action_among (length k.screens)) c.args.press.now
+    ≡ true)
+    (sym c.self.view_is) c.requires.press in
+    let release =
+    subst
+    (λ (k : Configuration). list_all (is_action_among (length k.screens)) c.args.release.now
+    ≡ true)
+    (sym c.self.view_is) c.requires.release in
+    sound_hotkey c.add.result _ c.args.trigger c.args.press.now c.args.release.now c.add.new.self
+    c.add.ensures c.self.invariant c.requires.trigger press release

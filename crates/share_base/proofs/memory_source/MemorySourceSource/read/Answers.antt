@@ -8,7 +8,10 @@ returns-clause-reads c =
     let fields = c.self.inside in
     let n = c.min-n.result in
     let given = ap (λ (xs : List ℕ). Some xs)
-    (sym (ap (λ (m : MemoryInput). m.left) c.self.view_is) ∙ copied_front fields.bytes.items c.copy_from_slice.new.self (drop n c.args.buf.now) fields.at n (omega arith) (cc)) in
+    (sym (ap (λ (m : MemoryInput). m.left) c.self.view_is)
+    ∙ copied_front fields.bytes.items c.copy_from_slice.new.self (drop n c.args.buf.now)
+    fields.at n (omega arith) (cc))
+    in
     let same = c.self.view_is in record {
       gives = given;
       ends = ap (λ (m : MemoryInput). Some m.ended) same;

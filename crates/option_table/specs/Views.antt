@@ -3,4 +3,5 @@ use Rattle.option_table.specs.declared.rows.Row.{Row}
 use Rattle.option_table.specs.Table.{RowText}
 
 abbrev pub row_text : Row → RowText
-row_text r = record { key = r.key.now; scope = r.scope; form = r.form; default = r.default; code = r.code }
+row_text r =
+    record { key = r.key.now; scope = r.scope; form = r.form; default = r.default; code = r.code }

@@ -26,4 +26,5 @@ may_be stands option (Some v) = stands (row_of option).scope && suits (row_of op
 
 -- a value for each row of the table, and each may be there
 unfoldable pub are_settings : (Scope → Bool) → Values → Bool
-are_settings stands values = (length values == 26) && list_all (λ o. may_be stands o (setting values o)) options
+are_settings stands values =
+    (length values == 26) && list_all (λ o. may_be stands o (setting values o)) options

@@ -1,6 +1,6 @@
 -- What the code's borrowed values stand for.
 use Rattle.std.specs.Prelude.{List}
-use Rattle.text_lines.specs.Seen.{word_text}
+use Rattle.text_lines.specs.Views.{word_text}
 use Rattle.hotkey_text.specs.declared.forms.ActionForm as code_form
 use Rattle.hotkey_text.specs.declared.lists.ActionList as code_list
 use Rattle.hotkey_text.specs.declared.shapes.HotkeyForm as code_line
@@ -9,7 +9,8 @@ use Rattle.hotkey_text.specs.declared.arguments.ActionWords as code_words
 use Rattle.hotkey_text.specs.declared.arguments.ActionWords.TheVariants as words
 use Rattle.hotkey_text.specs.Shapes.{ActionForm, HotkeyForm}
 use Rattle.hotkey_text.specs.Lists.{actions_from}
-use Rattle.hotkey_text.specs.Arguments.{ScreenText, ActionText, Key, Mouse, Lock, SwitchTo, SwitchToward}
+use Rattle.hotkey_text.specs.Arguments.{ScreenText, ActionText, Key, Mouse, Lock, SwitchTo}
+use Rattle.hotkey_text.specs.Arguments.{SwitchToward}
 
 abbrev pub form_text : code_form.ActionForm → ActionForm
 form_text f = record { word = word_text f.word; argument = f.argument.now }
@@ -18,7 +19,14 @@ abbrev pub list_text : code_list.ActionList → List ActionForm
 list_text l = actions_from l.rest
 
 abbrev pub line_text : code_line.HotkeyForm → HotkeyForm
-line_text l = record { kind = l.kind; argument = l.argument.now; press = list_text l.press; released = l.released; release = list_text l.release }
+line_text l =
+    record {
+      kind = l.kind;
+      argument = l.argument.now;
+      press = list_text l.press;
+      released = l.released;
+      release = list_text l.release;
+    }
 
 abbrev pub screen_text : code_screen.ScreenWord → ScreenText
 screen_text s = record { word = word_text s.word; further = s.further }

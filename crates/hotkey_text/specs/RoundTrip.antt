@@ -1,12 +1,14 @@
 -- What is read of a hotkey that is printed.
-use Rattle.std.specs.Prelude.{◌≡◌, ℕ, Bool, true, not, ◌==◌, ◌&&◌, ◌||◌, nat_le, List, map, Ok, None}
+use Rattle.std.specs.Prelude.{◌≡◌, ℕ, Bool, true, not, ◌==◌, ◌&&◌, ◌||◌, nat_le, List, map, Ok}
+use Rattle.std.specs.Prelude.{None}
 use Rattle.std.specs.List.{list_all, AllZip}
 use Rattle.text_lines.specs.Reading.{is_empty}
 use Rattle.hotkey_rules.specs.declared.action.Action.{Action}
 use Rattle.hotkey_rules.specs.declared.action.Action.TheVariants as action
 use Rattle.hotkey_rules.specs.declared.trigger.Trigger.{Trigger}
 use Rattle.hotkey_text.specs.declared.names.Deed.TheVariants as deed
-use Rattle.hotkey_text.specs.Arguments.{ActionText, Key, Mouse, Lock, SwitchTo, SwitchToward, action_of, trigger_of}
+use Rattle.hotkey_text.specs.Arguments.{ActionText, Key, Mouse, Lock, SwitchTo, SwitchToward}
+use Rattle.hotkey_text.specs.Arguments.{action_of, trigger_of}
 use Rattle.hotkey_text.specs.Printed.{action_text}
 use Rattle.hotkey_text.specs.Shapes.{ActionForm, HotkeyForm, is_hotkey, hotkey_at}
 use Rattle.hotkey_rules.specs.WellFormed.{is_action}
@@ -45,7 +47,8 @@ words_of (action.MouseClick mods b) screen left = Mouse deed.Stroke b mods
 words_of (action.MousePress mods b) screen left = Mouse deed.Press b mods
 words_of (action.MouseRelease mods b) screen left = Mouse deed.Release b mods
 words_of (action.Lock mode) screen left = Lock mode
-words_of (action.SwitchTo number) screen left = SwitchTo (record { word = record { text = screen; left = left }; further = None })
+words_of (action.SwitchTo number) screen left =
+    SwitchTo (record { word = record { text = screen; left = left }; further = None })
 words_of (action.SwitchToward side) screen left = SwitchToward side
 
 -- the form has that action's words
@@ -61,8 +64,10 @@ HaveWordsOf screen actions forms = AllZip (λ a form. HasWordsOf a (screen a) fo
 abbrev pub texts_of : (Action → List ℕ) → List Action → List (List ℕ)
 texts_of screen actions = map (λ a. action_text a (screen a)) actions
 
--- this line is read as one of that trigger, of these actions when it goes down and of those when it goes up
-pub record ReadsAs (text : List ℕ) (screen : Action → List ℕ) (t : Trigger) (down up : List Action) : Type 0 where
+-- this line is read as one of that trigger, of these actions when it goes down and of those when it
+-- goes up
+pub record ReadsAs (text : List ℕ) (screen : Action → List ℕ) (t : Trigger) (down up : List Action)
+    : Type 0 where
   pub line : HotkeyForm
   pub hotkey : is_hotkey text ≡ true
   pub read : hotkey_at text ≡ Ok line
