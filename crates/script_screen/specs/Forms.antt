@@ -36,7 +36,8 @@ script_row script.Primary = row_of (codes "primary" ∷ []) (Screen ∷ size ∷
 script_row script.Sleep = sleep_row
 script_row script.Await = row_of (codes "await" ∷ []) (Screen ∷ [])
 script_row script.KeyDown = row_of (codes "key" ∷ codes "down" ∷ []) (Number 1 65535 ∷ button ∷ [])
-script_row script.KeyRepeat = row_of (codes "key" ∷ codes "repeat" ∷ []) (Number 1 65535 ∷ button ∷ [])
+script_row script.KeyRepeat =
+    row_of (codes "key" ∷ codes "repeat" ∷ []) (Number 1 65535 ∷ button ∷ [])
 script_row script.KeyUp = row_of (codes "key" ∷ codes "up" ∷ []) (button ∷ [])
 script_row script.ButtonDown = row_of (codes "button" ∷ codes "down" ∷ []) (button ∷ [])
 script_row script.ButtonUp = row_of (codes "button" ∷ codes "up" ∷ []) (button ∷ [])
@@ -66,7 +67,8 @@ trace_row trace.Room = row_of (codes "room" ∷ []) (long_number ∷ long_number
 
 abbrev pub script_forms : List ScriptForm
 script_forms =
-    script.Primary ∷ script.Sleep ∷ script.Await ∷ script.KeyDown ∷ script.KeyRepeat ∷ script.KeyUp ∷ script.ButtonDown ∷ script.ButtonUp ∷
+    script.Primary ∷ script.Sleep ∷ script.Await ∷ script.KeyDown ∷ script.KeyRepeat ∷ script.KeyUp
+    ∷ script.ButtonDown ∷ script.ButtonUp ∷
     script.Motion ∷ script.Wheel ∷ script.SaverOn ∷ script.SaverOff ∷ script.Copy ∷ script.Quit ∷ []
 
 abbrev pub client_forms : List ClientForm

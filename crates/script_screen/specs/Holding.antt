@@ -1,10 +1,12 @@
 -- What the tables of buttons stand for.
-use Rattle.std.specs.Prelude.{◌≡◌, ℕ, ◌+◌, ◌<◌, false, List, [], length, get_or, Option, Some, None, All}
+use Rattle.std.specs.Prelude.{◌≡◌, ℕ, ◌+◌, ◌<◌, false, List, [], length, get_or, Option, Some, None}
+use Rattle.std.specs.Prelude.{All}
 use Rattle.script_screen.specs.declared.held.Held.{Held}
 use Rattle.script_screen.specs.declared.script.ScriptLine.{ScriptLine}
 use Rattle.script_screen.specs.declared.script.Primary.{Primary}
 use Rattle.script_screen.specs.Screens.{screen_count}
-use Rattle.script_screen.specs.Scripts.{key_is_down, button_is_down, IsPrimary, AreScriptLines, NamesBelow}
+use Rattle.script_screen.specs.Scripts.{key_is_down, button_is_down, IsPrimary, AreScriptLines}
+use Rattle.script_screen.specs.Scripts.{NamesBelow}
 use Rattle.script_screen.specs.Texts.{ScriptSoFar}
 
 -- each button is down where these lines leave it down

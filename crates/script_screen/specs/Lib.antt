@@ -8,8 +8,8 @@ pub mod Kinds
 pub mod NumberedLines
 pub mod Screens
 pub mod Scripts
-pub mod Seen
 pub mod Texts
 pub mod Traces
 pub mod Tracking
 pub mod Verdicts
+pub mod Views

@@ -16,7 +16,8 @@ abbrev pub refused_at : ℕ → TextKind → TextRefusal
 refused_at line k = record { line = line; kind = k }
 
 -- a line without words adds nothing, and a byte that may not stand in it is a bad word
-abbrev pub line_judged : {D : Type 0} → (D → List (List ℕ) → Result D TextKind) → D → LineText → Result D TextKind
+abbrev pub line_judged : {D : Type 0} → (D → List (List ℕ) → Result D TextKind) → D → LineText
+    → Result D TextKind
 line_judged judge draft Empty = Ok draft
 line_judged judge draft (Forbidden place) = Err kind.BadWord
 line_judged judge draft (Words bytes end) = judge draft (words_of bytes)
@@ -26,9 +27,13 @@ at_line line (Ok draft) = Ok draft
 at_line line (Err k) = Err (refused_at line k)
 
 -- a line with its number, which counts empty lines too
-abbrev pub numbered : {D : Type 0} → (D → List (List ℕ) → Result D TextKind) → ℕ → D → List ℕ → Result D TextRefusal
-numbered judge line draft raw = if nat_lt 1000000 line then Err (refused_at line kind.TooLong) else at_line line (line_judged judge draft (line_text raw))
+abbrev pub numbered : {D : Type 0} → (D → List (List ℕ) → Result D TextKind) → ℕ → D → List ℕ
+    → Result D TextRefusal
+numbered judge line draft raw =
+    if nat_lt 1000000 line then Err (refused_at line kind.TooLong)
+    else at_line line (line_judged judge draft (line_text raw))
 
 -- what all lines of a text give, one after another
-abbrev pub text_judged : {D : Type 0} → (D → List (List ℕ) → Result D TextKind) → D → List ℕ → Result D TextRefusal
+abbrev pub text_judged : {D : Type 0} → (D → List (List ℕ) → Result D TextKind) → D → List ℕ
+    → Result D TextRefusal
 text_judged judge draft text = all_lines (numbered judge) 1 draft (lines text)

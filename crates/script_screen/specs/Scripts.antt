@@ -1,5 +1,6 @@
 -- Server scripts: their lines, the buttons that lines leave down, and what every script keeps.
-use Rattle.std.specs.Prelude.{◌≡◌, ℕ, ◌<◌, ◌≤◌, ◌==◌, Bool, true, false, if◌then◌else◌, List, [], ◌∷◌, ◌++◌, length, Option, Some, None, Result, Ok, Err, All}
+use Rattle.std.specs.Prelude.{◌≡◌, ℕ, ◌<◌, ◌≤◌, ◌==◌, Bool, true, false, if◌then◌else◌, List, []}
+use Rattle.std.specs.Prelude.{◌∷◌, ◌++◌, length, Option, Some, None, Result, Ok, Err, All}
 use Rattle.std.specs.List.{fold}
 use Rattle.share_base.specs.declared.clip_id.ClipId.{ClipId}
 use Rattle.share_base.specs.declared.clip_id.ClipId.TheVariants.{Clipboard, Selection}
@@ -68,11 +69,12 @@ IsScriptLine (line.ButtonUp button) = 1 ≤ button.0
 IsScriptLine (line.Copy clip bytes) = length bytes ≤ 4194304
 IsScriptLine _ = Unit {0}
 
--- each of these lines is in its ranges and has no fault below those above it: so the downs and ups of a button
--- alternate
+-- each of these lines is in its ranges and has no fault below those above it: so the downs and ups
+-- of a button alternate
 abbrev pub AreScriptLines : List ScriptLine → List ScriptLine → Type 0
 AreScriptLines above [] = Unit {0}
-AreScriptLines above (l ∷ ls) = IsScriptLine l × (script_fault above l ≡ None) × AreScriptLines (above ++ l ∷ []) ls
+AreScriptLines above (l ∷ ls) =
+    IsScriptLine l × (script_fault above l ≡ None) × AreScriptLines (above ++ l ∷ []) ls
 
 abbrev pub IsPrimary : Primary → Type 0
 IsPrimary p = (1 ≤ p.w) × (p.w ≤ 32767) × (1 ≤ p.h) × (p.h ≤ 32767)

@@ -1,6 +1,7 @@
--- The three texts: their forms and the lines that these make, where a form may stand, and what a line adds to those
--- above it.
-use Rattle.std.specs.Prelude.{ℕ, ◌==◌, if◌then◌else◌, List, [], ◌∷◌, ◌++◌, true, false, Option, Some, None, Result, Ok, Err}
+-- The three texts: their forms and the lines that these make, where a form may stand, and what a
+-- line adds to those above it.
+use Rattle.std.specs.Prelude.{ℕ, ◌==◌, if◌then◌else◌, List, [], ◌∷◌, ◌++◌, true, false, Option}
+use Rattle.std.specs.Prelude.{Some, None, Result, Ok, Err}
 use Rattle.text_lines.specs.Reading.{◌>>=◌}
 use Rattle.share_base.specs.declared.clip_id.ClipId.{ClipId}
 use Rattle.share_base.specs.declared.clip_id.ClipId.TheVariants.{Clipboard, Selection}
@@ -22,8 +23,10 @@ use Rattle.script_screen.specs.declared.client_script.ClientLine.{ClientLine}
 use Rattle.script_screen.specs.declared.client_script.ClientLine.TheVariants as client_line
 use Rattle.script_screen.specs.declared.trace.TraceLine.{TraceLine}
 use Rattle.script_screen.specs.declared.trace.TraceLine.TheVariants as trace_line
-use Rattle.script_screen.specs.Grammar.{Language, Value, Natural, Integer, Bytes, Chosen, unless_kind, words_judged}
-use Rattle.script_screen.specs.Forms.{script_forms, script_row, client_forms, client_row, trace_forms, trace_row}
+use Rattle.script_screen.specs.Grammar.{Language, Value, Natural, Integer, Bytes, Chosen}
+use Rattle.script_screen.specs.Grammar.{unless_kind, words_judged}
+use Rattle.script_screen.specs.Forms.{script_forms, script_row, client_forms, client_row}
+use Rattle.script_screen.specs.Forms.{trace_forms, trace_row}
 use Rattle.script_screen.specs.NumberedLines.{TextRefusal, refused_at, text_judged}
 use Rattle.script_screen.specs.Scripts.{ScriptText, script_fault}
 use Rattle.script_screen.specs.Traces.{trace_fault}
@@ -44,11 +47,14 @@ abbrev pub a_line : ScriptLine → Option ScriptItem
 a_line l = Some (item.Line l)
 
 abbrev pub script_item : ScriptForm → List Value → Option ScriptItem
-script_item script.Primary (Chosen n ∷ Natural w ∷ Natural h ∷ []) = Some (item.Primary (record { screen = record { 0 = n }; w = w; h = h }))
+script_item script.Primary (Chosen n ∷ Natural w ∷ Natural h ∷ []) =
+    Some (item.Primary (record { screen = record { 0 = n }; w = w; h = h }))
 script_item script.Sleep (Natural ms ∷ []) = a_line (script_line.Sleep ms)
 script_item script.Await (Chosen n ∷ []) = a_line (script_line.Await (record { 0 = n }))
-script_item script.KeyDown (Natural id ∷ Natural b ∷ []) = a_line (script_line.KeyDown (record { 0 = id }) (record { 0 = b }))
-script_item script.KeyRepeat (Natural n ∷ Natural b ∷ []) = a_line (script_line.KeyRepeat n (record { 0 = b }))
+script_item script.KeyDown (Natural id ∷ Natural b ∷ []) =
+    a_line (script_line.KeyDown (record { 0 = id }) (record { 0 = b }))
+script_item script.KeyRepeat (Natural n ∷ Natural b ∷ []) =
+    a_line (script_line.KeyRepeat n (record { 0 = b }))
 script_item script.KeyUp (Natural b ∷ []) = a_line (script_line.KeyUp (record { 0 = b }))
 script_item script.ButtonDown (Natural b ∷ []) = a_line (script_line.ButtonDown (record { 0 = b }))
 script_item script.ButtonUp (Natural b ∷ []) = a_line (script_line.ButtonUp (record { 0 = b }))
@@ -69,7 +75,8 @@ misplaced_by (Some p) _ = None
 
 abbrev pub script_add : ScriptSoFar → ScriptItem → Result ScriptSoFar TextKind
 script_add s (item.Primary p) = Ok (record s { primary = Some p })
-script_add s (item.Line l) = unless_kind (script_fault s.lines l) >>= λ _. Ok (record s { lines = s.lines ++ l ∷ [] })
+script_add s (item.Line l) =
+    unless_kind (script_fault s.lines l) >>= λ _. Ok (record s { lines = s.lines ++ l ∷ [] })
 
 abbrev pub script_language : Language ScriptForm ScriptItem ScriptSoFar
 script_language = record {
@@ -151,4 +158,5 @@ script_closed None ls = Err (refused_at 1 kind.NoPrimary)
 script_closed (Some p) ls = Ok (record { primary = p; lines = ls })
 
 abbrev pub script_reading : KnownScreens → List ℕ → Result ScriptText TextRefusal
-script_reading config text = text_judged script_judged (script_start config) text >>= λ d. script_closed d.primary d.lines
+script_reading config text =
+    text_judged script_judged (script_start config) text >>= λ d. script_closed d.primary d.lines

@@ -1,5 +1,7 @@
 -- Traces: what their lines say of moments and connections, and what every trace keeps.
-use Rattle.std.specs.Prelude.{◌≡◌, ℕ, ◌+◌, ◌<◌, ◌≤◌, ◌==◌, ◌&&◌, ◌||◌, not, nat_lt, Bool, true, false, if◌then◌else◌, List, [], ◌∷◌, ◌++◌, length, Option, Some, None, count_by}
+use Rattle.std.specs.Prelude.{◌≡◌, ℕ, ◌+◌, ◌<◌, ◌≤◌, ◌==◌, ◌&&◌, ◌||◌, not, nat_lt, Bool, true}
+use Rattle.std.specs.Prelude.{false, if◌then◌else◌, List, [], ◌∷◌, ◌++◌, length, Option, Some, None}
+use Rattle.std.specs.Prelude.{count_by}
 use Rattle.std.specs.List.{fold, list_any}
 use Rattle.script_screen.specs.declared.kinds.TextKind.{TextKind}
 use Rattle.script_screen.specs.declared.kinds.TextKind.TheVariants as kind
@@ -51,7 +53,8 @@ unless_known false = Some kind.UnknownConnection
 
 -- what is wrong with a line below these
 abbrev pub trace_fault : List TraceLine → TraceLine → Option TextKind
-trace_fault above (line.Turn t) = if nat_lt t (latest_moment above) then Some kind.MomentBack else None
+trace_fault above (line.Turn t) =
+    if nat_lt t (latest_moment above) then Some kind.MomentBack else None
 trace_fault above (line.Join c) = if c == join_count above + 1 then None else Some kind.WrongNumber
 trace_fault above (line.Got c bytes) = unless_known (is_going above c)
 trace_fault above (line.End c) = unless_known (is_going above c)
@@ -66,7 +69,8 @@ IsTraceLine _ = Unit {0}
 -- each of these lines has no fault below those above it
 abbrev pub AreTraceLines : List TraceLine → List TraceLine → Type 0
 AreTraceLines above [] = Unit {0}
-AreTraceLines above (l ∷ ls) = IsTraceLine l × (trace_fault above l ≡ None) × AreTraceLines (above ++ l ∷ []) ls
+AreTraceLines above (l ∷ ls) =
+    IsTraceLine l × (trace_fault above l ≡ None) × AreTraceLines (above ++ l ∷ []) ls
 
 abbrev pub BeginsWithTurn : List TraceLine → Type 0
 BeginsWithTurn [] = Unit {0}

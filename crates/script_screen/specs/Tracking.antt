@@ -5,9 +5,11 @@ use Rattle.script_screen.specs.declared.trace.TraceLine.{TraceLine}
 use Rattle.script_screen.specs.declared.trace.TraceLine.TheVariants as line
 use Rattle.script_screen.specs.declared.forms.TraceForm.{TraceForm}
 use Rattle.script_screen.specs.declared.forms.TraceForm.TheVariants as form
-use Rattle.script_screen.specs.Traces.{latest_moment, join_count, is_known, is_over, AreTraceLines, BeginsWithTurn}
+use Rattle.script_screen.specs.Traces.{latest_moment, join_count, is_known, is_over, AreTraceLines}
+use Rattle.script_screen.specs.Traces.{BeginsWithTurn}
 
--- the moment, the count of joins, and for each connection that may be named, from the first, whether it is over
+-- the moment, the count of joins, and for each connection that may be named, from the first,
+-- whether it is over
 pub record IsTrackAfter (track : Track) (lines : List TraceLine) : Type 0 where
   pub moment : track.moment ≡ latest_moment lines
   pub joined : track.joined ≡ join_count lines

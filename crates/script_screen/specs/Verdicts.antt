@@ -1,5 +1,6 @@
--- Which texts are scripts and traces, and where and why the others are refused: a text is accepted where each line is
--- good in what the lines above it gave, and refused at its first line that isn't.
+-- Which texts are scripts and traces, and where and why the others are refused: a text is accepted
+-- where each line is good in what the lines above it gave, and refused at its first line that
+-- isn't.
 use Rattle.std.specs.Prelude.{◌≡◌, ℕ, List, [], Option, Some, None, ◌⊎◌}
 use Rattle.std.specs.Str.Lines.{lines}
 use Rattle.text_lines.specs.LineByLine.{LeadsOver, OffendsIn}
@@ -9,11 +10,13 @@ use Rattle.script_screen.specs.declared.trace.TraceLine.{TraceLine}
 use Rattle.script_screen.specs.NumberedLines.{TextRefusal, refused_at, numbered}
 use Rattle.script_screen.specs.Screens.{KnownScreens}
 use Rattle.script_screen.specs.Scripts.{ScriptText}
-use Rattle.script_screen.specs.Texts.{ScriptSoFar, script_start, script_judged, client_judged, trace_judged}
+use Rattle.script_screen.specs.Texts.{ScriptSoFar, script_start, script_judged, client_judged}
+use Rattle.script_screen.specs.Texts.{trace_judged}
 
 -- ---- the server script
 
-pub record ScriptAccepts (config : KnownScreens) (text : List ℕ) (script : ScriptText) : Type 0 where
+pub record ScriptAccepts (config : KnownScreens) (text : List ℕ) (script : ScriptText)
+    : Type 0 where
   pub draft : ScriptSoFar
   pub good : LeadsOver (numbered script_judged) 1 (script_start config) (lines text) draft
   pub primary : draft.primary ≡ Some script.primary
@@ -27,7 +30,9 @@ pub record HasNoPrimary (config : KnownScreens) (text : List ℕ) (r : TextRefus
   pub place : r ≡ refused_at 1 kind.NoPrimary
 
 abbrev pub ScriptRefuses : KnownScreens → List ℕ → TextRefusal → Type 0
-ScriptRefuses config text r = OffendsIn (numbered script_judged) (script_start config) (lines text) r ⊎ HasNoPrimary config text r
+ScriptRefuses config text r =
+    OffendsIn (numbered script_judged) (script_start config) (lines text) r
+    ⊎ HasNoPrimary config text r
 
 -- ---- the client script
 
@@ -47,8 +52,10 @@ TraceRefuses text r = OffendsIn (numbered trace_judged) [] (lines text) r
 
 -- ---- one verdict
 
--- something is accepted or something is refused, and not both; one value at most, and one refusal at most
-pub record HasOneVerdict {V : Type 0} (Accepts : V → Type 0) (Refuses : TextRefusal → Type 0) : Type 0 where
+-- something is accepted or something is refused, and not both; one value at most, and one refusal
+-- at most
+pub record HasOneVerdict {V : Type 0} (Accepts : V → Type 0) (Refuses : TextRefusal → Type 0)
+    : Type 0 where
   pub some : ((v : V) × Accepts v) ⊎ ((r : TextRefusal) × Refuses r)
   pub not_both : (v : V) (r : TextRefusal) → Accepts v → Refuses r → ⊥
   pub one_value : (v w : V) → Accepts v → Accepts w → v ≡ w

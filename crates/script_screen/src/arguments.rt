@@ -1,12 +1,14 @@
 //! The arguments of a line.
 
-ghost use Rattle.std.specs.Prelude.{◌≡◌, ◌≤◌, ◌<◌, ◌∷◌, true, [], ℕ, List, Option, IfSome, IfOk, length, map, codes};
+ghost use Rattle.std.specs.Prelude.{◌≡◌, ◌≤◌, ◌<◌, ◌∷◌, true, [], ℕ, List, Option, IfSome, IfOk};
+ghost use Rattle.std.specs.Prelude.{length, map, codes};
 ghost use Rattle.std.specs.Str.{bytes_eq};
 ghost use Rattle.std.specs.Char.{is_ascii_hexdigit, digit_value};
 ghost use Rattle.text_lines.specs.Numbers.{decimal_of};
 ghost use Rattle.script_screen.specs.Answers.{LineGives};
 ghost use Rattle.script_screen.specs.Grammar as spec;
-ghost use Rattle.script_screen.specs.Grammar.{Number, Signed, Hex, Screen, Natural, Integer, Bytes, Chosen, arguments_of};
+ghost use Rattle.script_screen.specs.Grammar.{Number, Signed, Hex, Screen, Natural, Integer, Bytes};
+ghost use Rattle.script_screen.specs.Grammar.{Chosen, arguments_of};
 ghost use Rattle.script_screen.specs.Hex.{pair_value, pairs_of, bytes_within};
 ghost use Rattle.script_screen.specs.Screens.{screen_named, screen_count};
 
@@ -92,7 +94,10 @@ fn signed(word: &[u8]) -> Option<i16>
 #[tactic(auto, unfolding(crate::specs::Grammar::arguments_of))]
 pub(crate) fn one_number(words: &[&[u8]], within: Within) -> Result<u64, LineFault>
     requires { length words.now ≡ 1 }
-    ensures gives { (screens : List ℕ → Option ℕ) → LineGives (λ n. Natural n ∷ []) result (arguments_of screens (Number within.least within.most ∷ []) (map (λ w. w.now) words.now)) }
+    ensures gives { (screens : List ℕ → Option ℕ)
+        → LineGives (λ n. Natural n ∷ []) result
+        (arguments_of screens (Number within.least within.most ∷ [])
+        (map (λ w. w.now) words.now)) }
     ensures least { IfOk result (λ n. within.least ≤ n) }
     ensures most { IfOk result (λ n. n ≤ within.most) }
 {
@@ -108,7 +113,11 @@ pub(crate) fn two_numbers(
     then: Within,
 ) -> Result<(u64, u64), LineFault>
     requires { length words.now ≡ 2 }
-    ensures gives { (screens : List ℕ → Option ℕ) → LineGives (λ n. Natural n.0 ∷ Natural n.1 ∷ []) result (arguments_of screens (Number within.least within.most ∷ Number then.least then.most ∷ []) (map (λ w. w.now) words.now)) }
+    ensures gives { (screens : List ℕ → Option ℕ)
+        → LineGives (λ n. Natural n.0 ∷ Natural n.1 ∷ []) result
+        (arguments_of screens
+        (Number within.least within.most ∷ Number then.least then.most ∷ [])
+        (map (λ w. w.now) words.now)) }
     ensures least { IfOk result (λ n. within.least ≤ n.0) }
     ensures most { IfOk result (λ n. n.0 ≤ within.most) }
     ensures least_then { IfOk result (λ n. then.least ≤ n.1) }
@@ -124,7 +133,9 @@ pub(crate) fn two_numbers(
 #[tactic(auto, unfolding(crate::specs::Grammar::arguments_of))]
 pub(crate) fn two_signed(words: &[&[u8]]) -> Result<(i16, i16), LineFault>
     requires { length words.now ≡ 2 }
-    ensures { (screens : List ℕ → Option ℕ) → LineGives (λ n. Integer n.0 ∷ Integer n.1 ∷ []) result (arguments_of screens (Signed ∷ Signed ∷ []) (map (λ w. w.now) words.now)) }
+    ensures { (screens : List ℕ → Option ℕ)
+        → LineGives (λ n. Integer n.0 ∷ Integer n.1 ∷ []) result
+        (arguments_of screens (Signed ∷ Signed ∷ []) (map (λ w. w.now) words.now)) }
 {
     let (word, next) = two(words);
     let number_of_word = found(signed(word), TextKind::BadNumber)?;
@@ -136,7 +147,8 @@ pub(crate) fn two_signed(words: &[&[u8]]) -> Result<(i16, i16), LineFault>
 #[tactic(auto, unfolding(crate::specs::Grammar::arguments_of))]
 pub(crate) fn one_screen(words: &[&[u8]], config: &Config) -> Result<ScreenNo, LineFault>
     requires { length words.now ≡ 1 }
-    ensures gives { LineGives (λ n. Chosen n.0 ∷ []) result (arguments_of (screen_named config.now) (Screen ∷ []) (map (λ w. w.now) words.now)) }
+    ensures gives { LineGives (λ n. Chosen n.0 ∷ []) result
+        (arguments_of (screen_named config.now) (Screen ∷ []) (map (λ w. w.now) words.now)) }
     ensures known { IfOk result (λ n. n.0 < screen_count config.now) }
 {
     let word = one(words);
@@ -151,7 +163,10 @@ pub(crate) fn sized_screen(
     within: Within,
 ) -> Result<(ScreenNo, u64, u64), LineFault>
     requires { length words.now ≡ 3 }
-    ensures gives { LineGives (λ n. Chosen n.0.0 ∷ Natural n.1 ∷ Natural n.2 ∷ []) result (arguments_of (screen_named config.now) (Screen ∷ Number within.least within.most ∷ Number within.least within.most ∷ []) (map (λ w. w.now) words.now)) }
+    ensures gives { LineGives (λ n. Chosen n.0.0 ∷ Natural n.1 ∷ Natural n.2 ∷ []) result
+        (arguments_of (screen_named config.now)
+        (Screen ∷ Number within.least within.most ∷ Number within.least within.most ∷ [])
+        (map (λ w. w.now) words.now)) }
     ensures known { IfOk result (λ n. n.0.0 < screen_count config.now) }
     ensures width { IfOk result (λ n. (within.least ≤ n.1) × (n.1 ≤ within.most)) }
     ensures height { IfOk result (λ n. (within.least ≤ n.2) × (n.2 ≤ within.most)) }
@@ -212,7 +227,8 @@ fn is_dash(word: &[u8]) -> bool
 /// The bytes that a word spells. A word of too many or too few takes no memory.
 #[tactic(auto, unfolding(crate::specs::Hex::bytes_within))]
 fn bytes_of(alloc: Global, word: &[u8], sizes: Sizes) -> Result<Octets, LineFault>
-    ensures gives { LineGives (λ b. b) result (spec.or_kind (bytes_within sizes.least sizes.most word.now) TextKind.BadHex) }
+    ensures gives { LineGives (λ b. b) result
+        (spec.or_kind (bytes_within sizes.least sizes.most word.now) TextKind.BadHex) }
     ensures least { IfOk result (λ b. sizes.least ≤ length b) }
     ensures most { IfOk result (λ b. length b ≤ sizes.most) }
 {
@@ -241,7 +257,11 @@ pub(crate) fn number_and_bytes(
     sizes: Sizes,
 ) -> Result<(u64, Octets), LineFault>
     requires { length words.now ≡ 2 }
-    ensures gives { (screens : List ℕ → Option ℕ) → LineGives (λ n. Natural n.0 ∷ Bytes n.1 ∷ []) result (arguments_of screens (Number within.least within.most ∷ Hex sizes.least sizes.most ∷ []) (map (λ w. w.now) words.now)) }
+    ensures gives { (screens : List ℕ → Option ℕ)
+        → LineGives (λ n. Natural n.0 ∷ Bytes n.1 ∷ []) result
+        (arguments_of screens
+        (Number within.least within.most ∷ Hex sizes.least sizes.most ∷ [])
+        (map (λ w. w.now) words.now)) }
     ensures least { IfOk result (λ n. within.least ≤ n.0) }
     ensures most { IfOk result (λ n. n.0 ≤ within.most) }
     ensures fewest { IfOk result (λ n. sizes.least ≤ length n.1) }

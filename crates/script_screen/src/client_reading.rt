@@ -88,16 +88,19 @@ fn read(alloc: Global, text: &[u8]) -> Result<ClientScript, TextFault>
     }
 }
 
-/// Reads a client script. The text is refused at its first bad line. A text without lines is a script.
+/// Reads a client script. The text is refused at its first bad line. A text without lines is a
+/// script.
 pub fn read_client_script(alloc: Global, text: &[u8]) -> Result<ClientScript, TextFault>
     // What is given is what the text says.
     ensures found { IfOk result (ClientAccepts text.now) }
     // What a text says is given, unless memory runs out.
-    ensures only { (lines : List Line) → ClientAccepts text.now lines → TextGives (λ s. s) result (Ok lines) }
+    ensures only { (lines : List Line) → ClientAccepts text.now lines
+        → TextGives (λ s. s) result (Ok lines) }
     // A refusal is that of the text.
     ensures refused { IfErr result (RefusedBy (ClientRefuses text.now)) }
     // The text's refusal is given, unless memory runs out.
-    ensures refuses { (r : TextRefusal) → ClientRefuses text.now r → TextGives {Y = List Line} (λ s. s) result (Err r) }
+    ensures refuses { (r : TextRefusal) → ClientRefuses text.now r
+        → TextGives {Y = List Line} (λ s. s) result (Err r) }
 {
     read(alloc, text)
 }

@@ -26,7 +26,8 @@ pub(crate) trait Draft {
 }
 
 fn take_line<D: Draft>(draft: &mut D, raw: &[u8]) -> Result<(), LineFault>
-    ensures gives { LineGives (λ _. draft.new) result (line_judged D.judged draft.old (line_text raw.now)) }
+    ensures gives { LineGives (λ _. draft.new) result
+        (line_judged D.judged draft.old (line_text raw.now)) }
     ensures grows { OnOk result (D.size draft.new ≤ D.size draft.old + 1) }
 {
     match text_line(raw) {

@@ -2,9 +2,10 @@
 
 ghost use Rattle.std.specs.Prelude.{◌≡◌, map, length, drop, true};
 ghost use Rattle.std.specs.List.{find};
-ghost use Rattle.script_screen.specs.Forms.{script_row, script_forms, client_row, client_forms, trace_row, trace_forms};
+ghost use Rattle.script_screen.specs.Forms.{script_row, script_forms, client_row, client_forms};
+ghost use Rattle.script_screen.specs.Forms.{trace_row, trace_forms};
 ghost use Rattle.script_screen.specs.Grammar.{takes};
-ghost use Rattle.script_screen.specs.Seen.{IsRowOf};
+ghost use Rattle.script_screen.specs.Views.{IsRowOf};
 
 use crate::rows::{Row, make_row};
 
@@ -101,7 +102,8 @@ impl ScriptForm {
     /// The arguments of a line of this form.
     pub(crate) fn arguments<'a, 'w>(self, words: &'a [&'w [u8]]) -> &'a [&'w [u8]]
         requires { takes (script_row self) (map (λ w. w.now) words.now) ≡ true }
-        ensures rest { map (λ w. w.now) result.now ≡ drop (length (script_row self).words) (map (λ w. w.now) words.now) }
+        ensures rest { map (λ w. w.now) result.now
+            ≡ drop (length (script_row self).words) (map (λ w. w.now) words.now) }
         ensures count { length result.now ≡ length (script_row self).parts }
     {
         self.row().arguments(words)
@@ -109,7 +111,8 @@ impl ScriptForm {
 
     /// The form of a line of these words.
     pub(crate) fn of(words: &[&[u8]]) -> Option<ScriptForm>
-        ensures { result ≡ find (λ f. takes (script_row f) (map (λ w. w.now) words.now)) script_forms }
+        ensures { result
+            ≡ find (λ f. takes (script_row f) (map (λ w. w.now) words.now)) script_forms }
     {
         SCRIPT_FORMS
             .iter()
@@ -134,7 +137,8 @@ impl ClientForm {
     /// The arguments of a line of this form.
     pub(crate) fn arguments<'a, 'w>(self, words: &'a [&'w [u8]]) -> &'a [&'w [u8]]
         requires { takes (client_row self) (map (λ w. w.now) words.now) ≡ true }
-        ensures rest { map (λ w. w.now) result.now ≡ drop (length (client_row self).words) (map (λ w. w.now) words.now) }
+        ensures rest { map (λ w. w.now) result.now
+            ≡ drop (length (client_row self).words) (map (λ w. w.now) words.now) }
         ensures count { length result.now ≡ length (client_row self).parts }
     {
         self.row().arguments(words)
@@ -142,7 +146,8 @@ impl ClientForm {
 
     /// The form of a line of these words.
     pub(crate) fn of(words: &[&[u8]]) -> Option<ClientForm>
-        ensures { result ≡ find (λ f. takes (client_row f) (map (λ w. w.now) words.now)) client_forms }
+        ensures { result
+            ≡ find (λ f. takes (client_row f) (map (λ w. w.now) words.now)) client_forms }
     {
         CLIENT_FORMS
             .iter()
@@ -170,7 +175,8 @@ impl TraceForm {
     /// The arguments of a line of this form.
     pub(crate) fn arguments<'a, 'w>(self, words: &'a [&'w [u8]]) -> &'a [&'w [u8]]
         requires { takes (trace_row self) (map (λ w. w.now) words.now) ≡ true }
-        ensures rest { map (λ w. w.now) result.now ≡ drop (length (trace_row self).words) (map (λ w. w.now) words.now) }
+        ensures rest { map (λ w. w.now) result.now
+            ≡ drop (length (trace_row self).words) (map (λ w. w.now) words.now) }
         ensures count { length result.now ≡ length (trace_row self).parts }
     {
         self.row().arguments(words)
@@ -178,7 +184,8 @@ impl TraceForm {
 
     /// The form of a line of these words.
     pub(crate) fn of(words: &[&[u8]]) -> Option<TraceForm>
-        ensures { result ≡ find (λ f. takes (trace_row f) (map (λ w. w.now) words.now)) trace_forms }
+        ensures { result
+            ≡ find (λ f. takes (trace_row f) (map (λ w. w.now) words.now)) trace_forms }
     {
         TRACE_FORMS
             .iter()

@@ -50,7 +50,8 @@ impl Held {
     /// What is wrong with one more line.
     pub(crate) fn fault(&self, line: &ScriptLine) -> Option<TextKind>
         requires { IsScriptLine line.now }
-        ensures { (lines : List Line) → IsHeldAfter self.now lines → result ≡ script_fault lines line.now }
+        ensures { (lines : List Line) → IsHeldAfter self.now lines
+            → result ≡ script_fault lines line.now }
     {
         match line {
             ScriptLine::KeyDown { id: _, button } => already_down(self.keys[button.0 as usize]),
@@ -65,7 +66,8 @@ impl Held {
     /// Goes on by one line.
     pub(crate) fn follow(&mut self, line: &ScriptLine)
         requires { IsScriptLine line.now }
-        ensures { (lines : List Line) → IsHeldAfter self.old lines → IsHeldAfter self.new (lines ++ line.now ∷ []) }
+        ensures { (lines : List Line) → IsHeldAfter self.old lines
+            → IsHeldAfter self.new (lines ++ line.now ∷ []) }
     {
         match line {
             ScriptLine::KeyDown { id: _, button } => self.keys[button.0 as usize] = true,

@@ -7,7 +7,8 @@ ghost use Rattle.script_screen.specs.Forms.{script_row, client_row, trace_row};
 ghost use Rattle.script_screen.specs.Grammar.{line_of};
 ghost use Rattle.script_screen.specs.Screens.{screen_named, screen_count};
 ghost use Rattle.script_screen.specs.Scripts.{IsScriptItem, NamesItemBelow};
-ghost use Rattle.script_screen.specs.Texts.{script_language, client_language, trace_language, clip_of};
+ghost use Rattle.script_screen.specs.Texts.{script_language, client_language, trace_language};
+ghost use Rattle.script_screen.specs.Texts.{clip_of};
 ghost use Rattle.script_screen.specs.Traces.{IsTraceLine};
 ghost use Rattle.script_screen.specs.Tracking.{MakesTurn};
 
@@ -81,7 +82,9 @@ impl ScriptForm {
         config: &Config,
     ) -> Result<ScriptItem, LineFault>
         requires { length arguments.now ≡ length (script_row self).parts }
-        ensures gives { LineGives (λ i. i) result (line_of script_language (screen_named config.now) self (map (λ w. w.now) arguments.now)) }
+        ensures gives { LineGives (λ i. i) result
+            (line_of script_language (screen_named config.now) self
+            (map (λ w. w.now) arguments.now)) }
         ensures sound { IfOk result IsScriptItem }
         ensures known { IfOk result (NamesItemBelow (screen_count config.now)) }
     {
@@ -155,7 +158,9 @@ impl ClientForm {
     #[tactic(auto, unfolding(crate::specs::Forms::client_row))]
     pub(crate) fn item(self, alloc: Global, arguments: &[&[u8]]) -> Result<ClientLine, LineFault>
         requires { length arguments.now ≡ length (client_row self).parts }
-        ensures gives { (screens : List ℕ → Option ℕ) → LineGives (λ i. i) result (line_of client_language screens self (map (λ w. w.now) arguments.now)) }
+        ensures gives { (screens : List ℕ → Option ℕ)
+            → LineGives (λ i. i) result
+            (line_of client_language screens self (map (λ w. w.now) arguments.now)) }
         ensures sound { IfOk result IsClientLine }
     {
         match self {
@@ -186,7 +191,9 @@ impl TraceForm {
     #[tactic(auto, unfolding(crate::specs::Forms::trace_row))]
     pub(crate) fn item(self, alloc: Global, arguments: &[&[u8]]) -> Result<TraceLine, LineFault>
         requires { length arguments.now ≡ length (trace_row self).parts }
-        ensures gives { (screens : List ℕ → Option ℕ) → LineGives (λ i. i) result (line_of trace_language screens self (map (λ w. w.now) arguments.now)) }
+        ensures gives { (screens : List ℕ → Option ℕ)
+            → LineGives (λ i. i) result
+            (line_of trace_language screens self (map (λ w. w.now) arguments.now)) }
         ensures sound { IfOk result IsTraceLine }
         ensures turn { IfOk result (MakesTurn self) }
     {

@@ -86,9 +86,9 @@ pub(crate) enum LineFault {
 
 impl From<OutOfMemory> for LineFault {
     ghost use Rattle.std.specs.Prelude.{◌≡◌};
-    ghost use Rattle.script_screen.specs.declared.kinds.LineFault.TheVariants.{OutOfMemory as no_memory};
+    ghost use Rattle.script_screen.specs.declared.kinds.LineFault.TheVariants as fault;
 
-    ghost from_gives = { λ _ e. e ≡ no_memory };
+    ghost from_gives = { λ _ e. e ≡ fault.OutOfMemory };
 
     fn from(_error: OutOfMemory) -> LineFault {
         LineFault::OutOfMemory
@@ -97,9 +97,9 @@ impl From<OutOfMemory> for LineFault {
 
 impl From<AllocError> for LineFault {
     ghost use Rattle.std.specs.Prelude.{◌≡◌};
-    ghost use Rattle.script_screen.specs.declared.kinds.LineFault.TheVariants.{OutOfMemory as no_memory};
+    ghost use Rattle.script_screen.specs.declared.kinds.LineFault.TheVariants as fault;
 
-    ghost from_gives = { λ _ e. e ≡ no_memory };
+    ghost from_gives = { λ _ e. e ≡ fault.OutOfMemory };
 
     fn from(_error: AllocError) -> LineFault {
         LineFault::OutOfMemory

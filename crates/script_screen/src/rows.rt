@@ -2,7 +2,7 @@
 
 ghost use Rattle.std.specs.Prelude.{◌≡◌, ◌≤◌, ◌+◌, map, length, drop, true};
 ghost use Rattle.script_screen.specs.Grammar as spec;
-ghost use Rattle.script_screen.specs.Seen.{IsRowOf};
+ghost use Rattle.script_screen.specs.Views.{IsRowOf};
 
 /// What the lines of a form begin with, and how many arguments follow.
 #[derive(Clone, Copy, Debug)]
@@ -38,7 +38,8 @@ fn begins(words: &[&[u8]], wanted: &[&str]) -> bool
 impl Row {
     /// Whether a line of these words is of this form.
     pub(crate) fn takes(&self, words: &[&[u8]]) -> bool
-        ensures { (row : spec.Row) → IsRowOf self.now row → result ≡ spec.takes row (map (λ w. w.now) words.now) }
+        ensures { (row : spec.Row) → IsRowOf self.now row
+            → result ≡ spec.takes row (map (λ w. w.now) words.now) }
     {
         begins(words, self.words)
             && words.len().checked_sub(self.words.len()) == Some(self.arguments)
@@ -47,7 +48,8 @@ impl Row {
     /// The arguments of a line of these words.
     pub(crate) fn arguments<'a, 'w>(&self, words: &'a [&'w [u8]]) -> &'a [&'w [u8]]
         requires { length self.now.words.now ≤ length words.now }
-        ensures rest { map (λ w. w.now) result.now ≡ drop (length self.now.words.now) (map (λ w. w.now) words.now) }
+        ensures rest { map (λ w. w.now) result.now
+            ≡ drop (length self.now.words.now) (map (λ w. w.now) words.now) }
         ensures count { length self.now.words.now + length result.now ≡ length words.now }
     {
         &words[self.words.len()..]

@@ -33,7 +33,7 @@ pub enum ScriptLine {
     ButtonDown(MouseButton),
     /// A mouse button that is down goes up.
     ButtonUp(MouseButton),
-    /// The pointer moves by so many pixels.
+    /// The pointer moves by that many pixels.
     Motion {
         /// To the right; below 0 to the left.
         dx: i16,

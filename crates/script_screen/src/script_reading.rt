@@ -4,8 +4,10 @@ ghost use Rattle.std.specs.Prelude.{◌≡◌, ◌≤◌, ◌<◌, ◌+◌, leng
 ghost use Rattle.script_screen.specs.Answers.{LineGives, TextGives, RefusedBy};
 ghost use Rattle.script_screen.specs.NumberedLines.{TextRefusal, text_judged};
 ghost use Rattle.script_screen.specs.Screens.{screen_count};
-ghost use Rattle.script_screen.specs.Scripts.{ScriptText, IsScriptLine, IsScriptItem, NamesBelow, NamesItemBelow, ScreensBelow};
-ghost use Rattle.script_screen.specs.Texts.{misplaced_by, script_add, script_closed, script_reading, script_start, script_judged};
+ghost use Rattle.script_screen.specs.Scripts.{ScriptText, IsScriptLine, IsScriptItem, NamesBelow};
+ghost use Rattle.script_screen.specs.Scripts.{NamesItemBelow, ScreensBelow};
+ghost use Rattle.script_screen.specs.Texts.{misplaced_by, script_add, script_closed};
+ghost use Rattle.script_screen.specs.Texts.{script_reading, script_start, script_judged};
 ghost use Rattle.script_screen.specs.Verdicts.{ScriptAccepts, ScriptRefuses};
 
 use crate::drafts::{Draft, take_lines};
@@ -34,9 +36,12 @@ impl<'a> Model for ScriptDraft<'a> {
 
     ghost Value = { ScriptSoFar };
 
-    ghost view = { λ d. record { config = d.config.now; primary = d.primary; lines = d.lines.items } };
+    ghost view = { λ d.
+        record { config = d.config.now; primary = d.primary; lines = d.lines.items } };
 
-    ghost invariant = { λ d. IsScriptedBy d.held (record { config = d.config.now; primary = d.primary; lines = d.lines.items }) };
+    ghost invariant = { λ d.
+        IsScriptedBy d.held
+        (record { config = d.config.now; primary = d.primary; lines = d.lines.items }) };
 }
 
 impl ScriptDraft<'_> {
@@ -63,7 +68,8 @@ impl ScriptDraft<'_> {
     fn add_line(&mut self, line: ScriptLine) -> Result<(), LineFault>
         requires sound { IsScriptLine line }
         requires known { NamesBelow (screen_count self.old.config) line }
-        ensures gives { LineGives (λ _. self.new) result (script_add self.old (ScriptItem.Line line)) }
+        ensures gives { LineGives (λ _. self.new) result
+            (script_add self.old (ScriptItem.Line line)) }
         ensures grows { OnOk result (lines_held self.new ≤ lines_held self.old + 1) }
     {
         if let Some(kind) = self.held.fault(&line) {
@@ -93,7 +99,8 @@ impl ScriptDraft<'_> {
 
     fn finish(self) -> Result<Script, TextFault>
         requires { lines_held self ≤ 1000000 }
-        ensures gives { TextGives (λ s. s) result (script_closed self.entry.primary self.entry.lines) }
+        ensures gives { TextGives (λ s. s) result
+            (script_closed self.entry.primary self.entry.lines) }
         ensures known { IfOk result (ScreensBelow (screen_count self.entry.config)) }
     {
         match self.primary {
@@ -159,11 +166,13 @@ pub fn read_script(alloc: Global, text: &[u8], config: &Config) -> Result<Script
     // What is given is what the text says.
     ensures found { IfOk result (ScriptAccepts config.now text.now) }
     // What a text says is given, unless memory runs out.
-    ensures only { (script : ScriptText) → ScriptAccepts config.now text.now script → TextGives (λ s. s) result (Ok script) }
+    ensures only { (script : ScriptText) → ScriptAccepts config.now text.now script
+        → TextGives (λ s. s) result (Ok script) }
     // A refusal is that of the text.
     ensures refused { IfErr result (RefusedBy (ScriptRefuses config.now text.now)) }
     // The text's refusal is given, unless memory runs out.
-    ensures refuses { (r : TextRefusal) → ScriptRefuses config.now text.now r → TextGives {Y = ScriptText} (λ s. s) result (Err r) }
+    ensures refuses { (r : TextRefusal) → ScriptRefuses config.now text.now r
+        → TextGives {Y = ScriptText} (λ s. s) result (Err r) }
     // The script's screens are screens of the configuration.
     ensures known { IfOk result (ScreensBelow (screen_count config.now)) }
 {

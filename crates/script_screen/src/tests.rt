@@ -17,7 +17,8 @@ enum Which {
     Turns,
 }
 
-/// Texts, each with its first bad line, if it has one. Server scripts are read with the screens desk and pad.
+/// Texts, each with its first bad line, if it has one. Server scripts are read with the screens
+/// desk and pad.
 const ROWS: [(Which, &[u8], Option<(u32, TextKind)>); 92] = [
     (Server, b"", Some((1, NoPrimary))),
     (Server, b"# nothing\n\n \t\n", Some((1, NoPrimary))),

@@ -9,10 +9,11 @@ use std::marker::Model;
 /// A line of a trace. A line that names a connection belongs to the turn above it.
 #[derive(Debug, Drop)]
 pub enum TraceLine {
-    /// The next wait is answered, and it is that moment from here on, in milliseconds. It is no lower
-    /// than the moment before.
+    /// The next wait is answered, and it is that moment from here on, in milliseconds. It is no
+    /// lower than the moment before.
     Turn(u64),
-    /// That connection waits for acceptance. Connections are numbered from 1 in the order of these lines.
+    /// That connection waits for acceptance. Connections are numbered from 1 in the order of these
+    /// lines.
     Join(u64),
     /// These bytes, at least one, can be read from the connection.
     Got {
@@ -36,9 +37,9 @@ pub enum TraceLine {
 
 /// A trace. It is made by `read_trace` alone. Contracts see the list of its lines.
 ///
-/// In every trace the first line is a turn, moments don't fall, connections join in the order of their
-/// numbers, no line names a connection before it joined but for the first, and none gives bytes or a
-/// further end to one that has ended.
+/// In every trace the first line is a turn, moments don't fall, connections join in the order of
+/// their numbers, no line names a connection before it joined but for the first, and none gives
+/// bytes or a further end to one that has ended.
 #[derive(Debug, Drop)]
 pub struct Trace {
     pub(crate) lines: Vec<TraceLine>,

@@ -1,6 +1,7 @@
 //! Reading a trace.
 
-ghost use Rattle.std.specs.Prelude.{◌≡◌, ◌≤◌, ◌+◌, ◌++◌, ◌∷◌, [], List, length, IfOk, IfErr, OnOk, OnErr, Ok, Err};
+ghost use Rattle.std.specs.Prelude.{◌≡◌, ◌≤◌, ◌+◌, ◌++◌, ◌∷◌, [], List, length, IfOk, IfErr, OnOk};
+ghost use Rattle.std.specs.Prelude.{OnErr, Ok, Err};
 ghost use Rattle.script_screen.specs.declared.trace.TraceLine.{TraceLine as Line};
 ghost use Rattle.script_screen.specs.Answers.{LineGives, TextGives, RefusedBy};
 ghost use Rattle.script_screen.specs.NumberedLines.{TextRefusal, text_judged};
@@ -127,11 +128,13 @@ pub fn read_trace(alloc: Global, text: &[u8]) -> Result<Trace, TextFault>
     // What is given is what the text says.
     ensures found { IfOk result (TraceAccepts text.now) }
     // What a text says is given, unless memory runs out.
-    ensures only { (lines : List Line) → TraceAccepts text.now lines → TextGives (λ s. s) result (Ok lines) }
+    ensures only { (lines : List Line) → TraceAccepts text.now lines
+        → TextGives (λ s. s) result (Ok lines) }
     // A refusal is that of the text.
     ensures refused { IfErr result (RefusedBy (TraceRefuses text.now)) }
     // The text's refusal is given, unless memory runs out.
-    ensures refuses { (r : TextRefusal) → TraceRefuses text.now r → TextGives {Y = List Line} (λ s. s) result (Err r) }
+    ensures refuses { (r : TextRefusal) → TraceRefuses text.now r
+        → TextGives {Y = List Line} (λ s. s) result (Err r) }
 {
     read(alloc, text)
 }

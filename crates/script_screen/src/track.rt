@@ -1,6 +1,7 @@
 //! What a trace's lines say of moments and connections.
 
-ghost use Rattle.std.specs.Prelude.{◌≡◌, ◌++◌, ◌∷◌, ◌&&◌, nat_le, [], List, length, IfOk, OnOk, OnErr, None};
+ghost use Rattle.std.specs.Prelude.{◌≡◌, ◌++◌, ◌∷◌, ◌&&◌, nat_le, [], List, length, IfOk, OnOk};
+ghost use Rattle.std.specs.Prelude.{OnErr, None};
 ghost use Rattle.script_screen.specs.declared.trace.TraceLine.{TraceLine as Line};
 ghost use Rattle.script_screen.specs.Traces as spec;
 ghost use Rattle.script_screen.specs.Traces.{trace_fault};
@@ -44,21 +45,28 @@ impl Track {
     }
 
     fn is_known(&self, connection: u64) -> bool
-        ensures within { result ≡ (nat_le 1 connection && nat_le connection (length self.now.over.items)) }
-        ensures known { (lines : List Line) → IsTrackAfter self.now lines → result ≡ spec.is_known lines connection }
+        ensures within { result
+            ≡ (nat_le 1 connection && nat_le connection (length self.now.over.items)) }
+        ensures known { (lines : List Line) → IsTrackAfter self.now lines
+            → result ≡ spec.is_known lines connection }
     {
         1 <= connection && connection <= self.over.len() as u64
     }
 
     fn is_going(&self, connection: u64) -> bool
-        ensures { (lines : List Line) → IsTrackAfter self.now lines → result ≡ spec.is_going lines connection }
+        ensures { (lines : List Line) → IsTrackAfter self.now lines
+            → result ≡ spec.is_going lines connection }
     {
         self.is_known(connection) && !self.over[(connection - 1) as usize]
     }
 
     fn join(&mut self, connection: u64) -> Result<(), OutOfMemory>
-        ensures ok { OnOk result ((lines : List Line) → IsTrackAfter self.old lines → trace_fault lines (TraceLine.Join connection) ≡ None → IsTrackAfter self.new (lines ++ TraceLine.Join connection ∷ [])) }
-        ensures err { OnErr result ((lines : List Line) → IsTrackAfter self.old lines → IsTrackAfter self.new lines) }
+        ensures ok { OnOk result
+            ((lines : List Line) → IsTrackAfter self.old lines
+            → trace_fault lines (TraceLine.Join connection) ≡ None
+            → IsTrackAfter self.new (lines ++ TraceLine.Join connection ∷ [])) }
+        ensures err { OnErr result
+            ((lines : List Line) → IsTrackAfter self.old lines → IsTrackAfter self.new lines) }
     {
         if connection > 1 {
             self.over.push(false)?;
@@ -68,8 +76,12 @@ impl Track {
     }
 
     fn end(&mut self, connection: u64)
-        ensures end { (lines : List Line) → IsTrackAfter self.old lines → trace_fault lines (TraceLine.End connection) ≡ None → IsTrackAfter self.new (lines ++ TraceLine.End connection ∷ []) }
-        ensures fail { (lines : List Line) → IsTrackAfter self.old lines → trace_fault lines (TraceLine.Fail connection) ≡ None → IsTrackAfter self.new (lines ++ TraceLine.Fail connection ∷ []) }
+        ensures end { (lines : List Line) → IsTrackAfter self.old lines
+            → trace_fault lines (TraceLine.End connection) ≡ None
+            → IsTrackAfter self.new (lines ++ TraceLine.End connection ∷ []) }
+        ensures fail { (lines : List Line) → IsTrackAfter self.old lines
+            → trace_fault lines (TraceLine.Fail connection) ≡ None
+            → IsTrackAfter self.new (lines ++ TraceLine.Fail connection ∷ []) }
     {
         if self.is_known(connection) {
             self.over[(connection - 1) as usize] = true;
@@ -78,7 +90,8 @@ impl Track {
 
     /// What is wrong with one more line.
     pub(crate) fn fault(&self, line: &TraceLine) -> Option<TextKind>
-        ensures { (lines : List Line) → IsTrackAfter self.now lines → result ≡ trace_fault lines line.now }
+        ensures { (lines : List Line) → IsTrackAfter self.now lines
+            → result ≡ trace_fault lines line.now }
     {
         match line {
             TraceLine::Turn(moment) => {
@@ -110,8 +123,11 @@ impl Track {
 
     /// Goes on by one line, which has no fault. After `OutOfMemory` it stands where it did.
     pub(crate) fn follow(&mut self, line: &TraceLine) -> Result<(), OutOfMemory>
-        ensures ok { OnOk result ((lines : List Line) → IsTrackAfter self.old lines → trace_fault lines line.now ≡ None → IsTrackAfter self.new (lines ++ line.now ∷ [])) }
-        ensures err { OnErr result ((lines : List Line) → IsTrackAfter self.old lines → IsTrackAfter self.new lines) }
+        ensures ok { OnOk result
+            ((lines : List Line) → IsTrackAfter self.old lines → trace_fault lines line.now ≡ None
+            → IsTrackAfter self.new (lines ++ line.now ∷ [])) }
+        ensures err { OnErr result
+            ((lines : List Line) → IsTrackAfter self.old lines → IsTrackAfter self.new lines) }
     {
         match line {
             TraceLine::Turn(moment) => self.moment = *moment,

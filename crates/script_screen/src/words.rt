@@ -27,7 +27,8 @@ impl<'a> LineWords<'a> {
 
 /// The words of a line, or `None` if there are more than four.
 pub(crate) fn split_words(bytes: &[u8]) -> Option<LineWords<'_>>
-    ensures { MatchOption result (4 < length (words_of bytes.now)) (λ w. map (λ x. x.now) (take w.count w.words) ≡ words_of bytes.now) }
+    ensures { MatchOption result (4 < length (words_of bytes.now))
+        (λ w. map (λ x. x.now) (take w.count w.words) ≡ words_of bytes.now) }
 {
     let mut words: [&[u8]; 4] = [bytes; 4];
     let mut count = 0;

@@ -1,4 +1,5 @@
-use Rattle.script_screen.proofs.Readings.{is_client_reading, found_of, only_of, refused_of, refuses_of}
+use Rattle.script_screen.proofs.Readings.{is_client_reading, found_of, only_of, refused_of}
+use Rattle.script_screen.proofs.Readings.{refuses_of}
 use Rattle.script_screen.proofs.client_reading.read_client_script.Goals as goal
 
 pub returns : goal.returns

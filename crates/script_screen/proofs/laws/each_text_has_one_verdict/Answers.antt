@@ -1,7 +1,9 @@
 use Rattle.std.proofs.Common.{[]}
-use Rattle.script_screen.specs.Texts.{script_start, script_judged, client_judged, trace_judged, script_reading}
+use Rattle.script_screen.specs.Texts.{script_start, script_judged, client_judged, trace_judged}
+use Rattle.script_screen.specs.Texts.{script_reading}
 use Rattle.script_screen.specs.NumberedLines.{text_judged}
-use Rattle.script_screen.proofs.Readings.{is_script_reading, is_client_reading, is_trace_reading, one_verdict}
+use Rattle.script_screen.proofs.Readings.{is_script_reading, is_client_reading, is_trace_reading}
+use Rattle.script_screen.proofs.Readings.{one_verdict}
 use Rattle.script_screen.proofs.laws.each_text_has_one_verdict.Goals as goal
 
 pub returns : goal.returns

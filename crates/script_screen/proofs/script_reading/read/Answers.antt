@@ -8,6 +8,8 @@ use Rattle.script_screen.proofs.script_reading.read.Goals as goal
 
 pub returns-in-Ok-clause-known : goal.returns-in-Ok-clause-known
 returns-in-Ok-clause-known c =
-    let start : ScriptSoFar = record { config = c.args.config.now; primary = None; lines = c.new.result.items } in
+    let start : ScriptSoFar =
+    record { config = c.args.config.now; primary = None; lines = c.new.result.items } in
     let same = text_keeps start c.take_lines.new.draft c.args.text.now c.in-Ok.ensures.gives in
-    subst (λ (k : KnownScreens). IfOk c.finish.result (ScreensBelow (screen_count k))) same c.finish.ensures.known
+    subst (λ (k : KnownScreens). IfOk c.finish.result (ScreensBelow (screen_count k))) same
+    c.finish.ensures.known

@@ -1,4 +1,5 @@
-use Rattle.script_screen.proofs.Readings.{is_trace_reading, found_of, only_of, refused_of, refuses_of}
+use Rattle.script_screen.proofs.Readings.{is_trace_reading, found_of, only_of, refused_of}
+use Rattle.script_screen.proofs.Readings.{refuses_of}
 use Rattle.script_screen.proofs.trace_reading.read_trace.Goals as goal
 
 pub returns : goal.returns

@@ -1,0 +1,3 @@
+pub mod DrawSteps
+pub mod LineSteps
+pub mod EventSteps

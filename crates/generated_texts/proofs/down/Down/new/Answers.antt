@@ -1,0 +1,9 @@
+use Rattle.std.proofs.Common.{false}
+use Rattle.std.proofs.lemmas.List.{get_or-replicate}
+use Rattle.generated_texts.proofs.down.Down.new.Goals as goal
+
+pub returns : goal.returns
+returns c = record {
+  keys = λ b h. get_or-replicate 41 b false false h;
+  buttons = λ b h. get_or-replicate 4 b false false h;
+}
