@@ -13,6 +13,7 @@ use Rattle.machine.specs.Combining.{when}
 use Rattle.machine.specs.Queues.{entries_for}
 use Rattle.machine.specs.Routing.{route, entry}
 use Rattle.machine.specs.Switching.{entering, at_screen, tell_leaving}
+use Rattle.machine.specs.Screens.{change}
 use Rattle.machine.proofs.Live.{lives_as, IsLive, IsKnown, IsTame}
 use Rattle.machine.proofs.Invariant.{View, On, IsInvariant}
 use Rattle.machine.proofs.AnyButton.{any, any_origin, rules-any, lines-any}
@@ -84,6 +85,9 @@ removed_upto latest test (c ∷ cs) h =
 entered : (latest : ℕ) (o : Origin) (to : Target) (p : Point) (s : State) → is_upto latest to ≡ true → On (BelowLatest latest) s → On (BelowLatest latest) (route o to (entering p s) (at_screen to p s))
 entered latest o to p s u h = one latest o to (entering p s) (at_screen to p s) u (record { active = u; connections = h.connections; routed = h.routed })
 
+pub took : (latest serial : ℕ) (f : Connection → Connection) → IsTame f → (s : State) → On (BelowLatest latest) s → On (BelowLatest latest) (change serial f s)
+took latest serial f tame s h = record { active = h.active; connections = changed_upto latest serial f tame s.connections h.connections; routed = h.routed }
+
 pub invariant : (latest : ℕ) → IsInvariant any any_origin (BelowLatest latest)
 invariant latest = record {
   own = refl;
@@ -93,7 +97,7 @@ invariant latest = record {
   input = λ o a m p b s h. one latest o s.active m s h.active h;
   switched = λ o a to p s on h. entered latest o to p (tell_leaving s) (target_upto latest s to on h) (one latest Own s.active msg.Leave s h.active h);
   fell = λ p s off h. entered latest Own Primary p s refl h;
-  changed = λ serial f tame s h. record { active = h.active; connections = changed_upto latest serial f tame s.connections h.connections; routed = h.routed };
+  changed = λ serial f tame same s h. took latest serial f tame s h;
   closed = λ serial s h. record { active = h.active; connections = removed_upto latest (λ c. not (has_serial serial c)) s.connections h.connections; routed = h.routed };
   ahead = λ lines k s h. h;
 }

@@ -59,7 +59,7 @@ invariant n = record {
   input = λ o a m p b s h. h;
   switched = λ o a to p s on h. h;
   fell = λ p s off h. h;
-  changed = λ serial f tame s h. let less = changed-fewer serial f tame s.connections in omega arith;
+  changed = λ serial f tame same s h. let less = changed-fewer serial f tame s.connections in omega arith;
   closed = λ serial s h. let less = removed_fewer (λ c. not (has_serial serial c)) s.connections in omega arith;
   ahead = λ lines k s h. h;
 }

@@ -13,7 +13,7 @@ use Rattle.machine.specs.Switching.{tell_entering, tell_leaving}
 use Rattle.machine.specs.Running.{past}
 use Rattle.machine.specs.KeyButtons.{pressed_by_message, pressed_by_rule, pressed_by_line}
 use Rattle.machine.proofs.MessageKinds.{is_plain, is_input}
-use Rattle.machine.proofs.Live.{IsLive, IsKnown, IsTame}
+use Rattle.machine.proofs.Live.{IsLive, IsKnown, IsTame, KeepsTaken}
 
 -- what an invariant may look at
 pub record View : Type 0 where
@@ -38,6 +38,6 @@ pub record IsInvariant (key : ℕ → Bool) (allowed : Origin → Bool) (P : Vie
   pub input : (o : Origin) → allowed o ≡ true → (m : Msg) → is_input m ≡ true → pressed_by_message key m ≡ true → (s : State) → On P s → On P (route o s.active m s)
   pub switched : (o : Origin) → allowed o ≡ true → (to : Target) (p : Point) (s : State) → IsLive s.connections to → On P s → On P (tell_entering o to p (tell_leaving s))
   pub fell : (p : Point) (s : State) → (IsLive s.connections s.active → ⊥) → On P s → On P (tell_entering Own Primary p s)
-  pub changed : (serial : ℕ) (f : Connection → Connection) → IsTame f → (s : State) → On P s → On P (change serial f s)
+  pub changed : (serial : ℕ) (f : Connection → Connection) → IsTame f → KeepsTaken f → (s : State) → On P s → On P (change serial f s)
   pub closed : (serial : ℕ) (s : State) → On P s → On P (record s { connections = removed serial s.connections })
   pub ahead : (lines : List Line) → list_all (pressed_by_line key) lines ≡ true → (s : State) → On P s → On P (past lines s)

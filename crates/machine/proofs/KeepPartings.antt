@@ -71,7 +71,7 @@ say_farewell-keeps i cause.Failed serial s on h = h
 pub part-keeps : {key : ℕ → Bool} {allowed : Origin → Bool} {P : View → Type 0} (i : IsInvariant key allowed P) (cause : PartCause) (serial : ℕ) (s : State) → IsLive s.connections (Client serial) → On P s → On P (part cause serial s)
 part-keeps {P = P} i cause serial s on h =
     let told : State = say_farewell cause serial s in
-    let after : On P (marked cause serial told) = i.changed serial (parted cause told.at) (parted-tame cause told.at) told (say_farewell-keeps i cause serial s on h) in
+    let after : On P (marked cause serial told) = i.changed serial (parted cause told.at) (parted-tame cause told.at) (λ c. refl) told (say_farewell-keeps i cause serial s on h) in
     for_some-keeps (On P) (screen_joined s serial) (lose serial) unchanged (marked cause serial told) (λ screen e. lose-keeps i serial screen (marked cause serial told) (marked-off cause serial told) after) after
 
 -- ---- slow connections

@@ -103,7 +103,7 @@ beat-steady now c = (refl, ap not (beat_parting now c.phase))
 beat-keeps : {key : ℕ → Bool} {allowed : Origin → Bool} {P : View → Type 0} (i : IsInvariant key allowed P) (serial : ℕ) (s : State) → IsLive s.connections (Client serial) → On P s → On P (beat serial s)
 beat-keeps i serial s on h =
     let f = sent_beat s.at in
-    i.plain Own i.own (Client serial) msg.Alive refl (change serial f s) (inr (steady-live serial f (beat-steady s.at) s.connections (Client serial) on)) (i.changed serial f (steady-tame f (beat-steady s.at)) s h)
+    i.plain Own i.own (Client serial) msg.Alive refl (change serial f s) (inr (steady-live serial f (beat-steady s.at) s.connections (Client serial) on)) (i.changed serial f (steady-tame f (beat-steady s.at)) (λ c. refl) s h)
 
 -- ---- the gate
 

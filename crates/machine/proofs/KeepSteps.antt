@@ -13,7 +13,7 @@ use Rattle.machine.specs.Hearing.{hear}
 use Rattle.machine.specs.Timers.{after_timers}
 use Rattle.machine.specs.Steps.{inbox_of, received_by, receives, judge, hear_added, hear_piece, got, drops, breaks, takes, close, moment}
 use Rattle.machine.proofs.Rules.{when-keeps-if, choose-keeps, for_some-keeps, for_each-keeps}
-use Rattle.machine.proofs.Live.{IsSteady, steady-tame, lives-live}
+use Rattle.machine.proofs.Live.{IsTame, IsSteady, steady-tame, lives-live}
 use Rattle.machine.proofs.Invariant.{View, On, IsInvariant}
 use Rattle.machine.proofs.KeepPartings.{part-keeps, part_slow-keeps}
 use Rattle.machine.proofs.KeepScripts.{run_script-keeps, after_timers-keeps}
@@ -29,19 +29,19 @@ pub receives-steady : (piece : List ℕ) → IsSteady (receives piece)
 receives-steady piece c = (refl, refl)
 
 pub got-keeps : {key : ℕ → Bool} {allowed : Origin → Bool} {P : View → Type 0} (i : IsInvariant key allowed P) (serial : ℕ) (piece : List ℕ) (s : State) → On P s → On P (got serial piece s)
-got-keeps {P = P} i serial piece s h = when-keeps-if (On P) (lives s serial) (hear_piece serial piece) s (λ e. hear_added-keeps i serial (inbox_of (received_by s serial)) (inbox_of (received_by s serial ++ piece)) (change serial (receives piece) s) (i.changed serial (receives piece) (steady-tame (receives piece) (receives-steady piece)) s h)) h
+got-keeps {P = P} i serial piece s h = when-keeps-if (On P) (lives s serial) (hear_piece serial piece) s (λ e. hear_added-keeps i serial (inbox_of (received_by s serial)) (inbox_of (received_by s serial ++ piece)) (change serial (receives piece) s) (i.changed serial (receives piece) (steady-tame (receives piece) (receives-steady piece)) (λ c. refl) s h)) h
 
 pub drops-steady : IsSteady drops
 drops-steady c = (refl, refl)
 
 pub breaks-keeps : {key : ℕ → Bool} {allowed : Origin → Bool} {P : View → Type 0} (i : IsInvariant key allowed P) (why : PartCause) (serial : ℕ) (s : State) → On P s → On P (breaks why serial s)
-breaks-keeps {P = P} i why serial s h = part_slow-keeps i (choose (lives s serial) (part why serial) (change serial drops) s) (choose-keeps (On P) (lives s serial) (part why serial) (change serial drops) s (λ e. part-keeps i why serial s (lives-live serial s e) h) (λ e. i.changed serial drops (steady-tame drops drops-steady) s h))
+breaks-keeps {P = P} i why serial s h = part_slow-keeps i (choose (lives s serial) (part why serial) (change serial drops) s) (choose-keeps (On P) (lives s serial) (part why serial) (change serial drops) s (λ e. part-keeps i why serial s (lives-live serial s e) h) (λ e. i.changed serial drops (steady-tame drops drops-steady) (λ c. refl) s h))
 
 pub takes-steady : (count : ℕ) → IsSteady (takes count)
 takes-steady count c = (refl, refl)
 
-pub took-keeps : {key : ℕ → Bool} {allowed : Origin → Bool} {P : View → Type 0} (i : IsInvariant key allowed P) (serial count : ℕ) (s : State) → On P s → On P (change serial (takes count) s)
-took-keeps i serial count s h = i.changed serial (takes count) (steady-tame (takes count) (takes-steady count)) s h
+pub takes-tame : (count : ℕ) → IsTame (takes count)
+takes-tame count = steady-tame (takes count) (takes-steady count)
 
 pub close-keeps : {key : ℕ → Bool} {allowed : Origin → Bool} {P : View → Type 0} (i : IsInvariant key allowed P) (serial : ℕ) (s : State) → On P s → On P (close serial s)
 close-keeps i serial s h = i.closed serial s h

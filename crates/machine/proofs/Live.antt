@@ -32,6 +32,10 @@ AllKnown s (t ∷ ts) = IsKnown s t × AllKnown s ts
 abbrev pub IsTame : (Connection → Connection) → Type 0
 IsTame f = (c : Connection) → ((f c).serial ≡ c.serial) × (is_live (f c) ≡ true → is_live c ≡ true)
 
+-- it has taken as much as before
+abbrev pub KeepsTaken : (Connection → Connection) → Type 0
+KeepsTaken f = (c : Connection) → (f c).taken ≡ c.taken
+
 tame_one : (n serial : ℕ) (f : Connection → Connection) → IsTame f → (b : Bool) (c : Connection) → lives_as n (when b f c) ≡ true → lives_as n c ≡ true
 tame_one n serial f tame true c h =
     let same : (f c).serial ≡ c.serial = (tame c).0 in

@@ -1,6 +1,6 @@
 -- An invariant: of the targets that live only the active one has anything down, and just what was left down on it since
 -- it was entered.
-use Rattle.std.specs.Prelude.{◌≡◌, refl, Bool, true, false, List, [], ◌∷◌, ◌++◌}
+use Rattle.std.specs.Prelude.{◌≡◌, refl, ℕ, Bool, true, false, List, [], ◌∷◌, ◌++◌}
 use Rattle.std.proofs.Common.{arith, ◌∙◌, subst}
 use Rattle.message_codec.specs.declared.messages.Msg.{Msg}
 use Rattle.message_codec.specs.declared.messages.Msg.TheVariants as msg
@@ -16,7 +16,8 @@ use Rattle.machine.proofs.Targets.{same_target-refl, same_target-is, same_target
 use Rattle.machine.proofs.OfTargets.{messages-more}
 use Rattle.machine.proofs.MessageKinds.{is_plain, is_input}
 use Rattle.machine.proofs.LeftDown.{IsQuiet, IsSince, quiet-plain, quiet-leave, since-plain, since-input, since-enter}
-use Rattle.machine.proofs.Live.{IsLive, IsKnown, changed-live, removed-live}
+use Rattle.machine.proofs.Live.{IsLive, IsKnown, IsTame, changed-live, removed-live}
+use Rattle.machine.specs.Screens.{change}
 use Rattle.machine.proofs.Invariant.{View, On, IsInvariant}
 use Rattle.machine.proofs.AnyButton.{any, any_origin, rules-any, lines-any}
 
@@ -83,6 +84,9 @@ entered o to p s on still =
 fewer : (s : State) (cs : List Connection) → ((t : Target) → IsLive cs t → IsLive s.connections t) → On OnlyActive s → IsOnlyActive s.active cs s.routed
 fewer s cs less h = record { quiet = λ t d on. h.quiet t d (less t on); since = h.since }
 
+pub took : (serial : ℕ) (f : Connection → Connection) → IsTame f → (s : State) → On OnlyActive s → On OnlyActive (change serial f s)
+took serial f tame s h = fewer s (changed serial f s.connections) (changed-live serial f tame s.connections) h
+
 pub invariant : IsInvariant any any_origin OnlyActive
 invariant = record {
   own = refl;
@@ -92,7 +96,7 @@ invariant = record {
   input = input;
   switched = λ o a to p s on h. entered o to p (tell_leaving s) on (left s h);
   fell = λ p s off h. entered Own Primary p s tt (lost s off h);
-  changed = λ serial f tame s h. fewer s (changed serial f s.connections) (changed-live serial f tame s.connections) h;
+  changed = λ serial f tame same s h. took serial f tame s h;
   closed = λ serial s h. fewer s (removed serial s.connections) (removed-live serial s.connections) h;
   ahead = λ lines k s h. h;
 }

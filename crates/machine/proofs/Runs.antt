@@ -24,7 +24,7 @@ use Rattle.machine.proofs.LeftDown.{IsQuiet, quiet-none, since-none}
 use Rattle.machine.proofs.Live.{lives_as, IsLive}
 use Rattle.machine.proofs.Invariant.{View, On, IsInvariant}
 use Rattle.machine.proofs.KeepPartings.{part-keeps}
-use Rattle.machine.proofs.KeepSteps.{got-keeps, breaks-keeps, took-keeps, close-keeps, moment-keeps}
+use Rattle.machine.proofs.KeepSteps.{takes-tame, got-keeps, breaks-keeps, close-keeps, moment-keeps}
 use Rattle.machine.proofs.OnlyActive.{OnlyActive, IsOnlyActive}
 use Rattle.machine.proofs.OnlyActive as only
 use Rattle.machine.proofs.AtKeyButtons.{AtKeyButtons}
@@ -90,7 +90,7 @@ step-below latest s (Joined serial) a k = accept-keeps (below.invariant serial) 
 step-below latest s (Got serial piece) a k = got-keeps (below.invariant latest) serial piece s k
 step-below latest s (Ended serial) a k = breaks-keeps (below.invariant latest) cause.Ended serial s k
 step-below latest s (Failed serial) a k = breaks-keeps (below.invariant latest) cause.Failed serial s k
-step-below latest s (Took serial count) a k = took-keeps (below.invariant latest) serial count s k
+step-below latest s (Took serial count) a k = below.took latest serial (takes count) (takes-tame count) s k
 step-below latest s (Moment t) a k = moment-keeps (below.invariant latest) (λ n. refl) (λ n. refl) t s k
 step-below latest s (Closed serial) a k = close-keeps (below.invariant latest) serial s k
 
@@ -99,7 +99,7 @@ step-only latest s (Joined serial) a b k = accept-keeps only.invariant serial s 
 step-only latest s (Got serial piece) a b k = got-keeps only.invariant serial piece s k
 step-only latest s (Ended serial) a b k = breaks-keeps only.invariant cause.Ended serial s k
 step-only latest s (Failed serial) a b k = breaks-keeps only.invariant cause.Failed serial s k
-step-only latest s (Took serial count) a b k = took-keeps only.invariant serial count s k
+step-only latest s (Took serial count) a b k = only.took serial (takes count) (takes-tame count) s k
 step-only latest s (Moment t) a b k = moment-keeps only.invariant (λ n. refl) (λ n. refl) t s k
 step-only latest s (Closed serial) a b k = close-keeps only.invariant serial s k
 
@@ -108,7 +108,7 @@ step-keys s (Joined serial) k = accept-keeps keys.invariant serial s (record { r
 step-keys s (Got serial piece) k = got-keeps keys.invariant serial piece s k
 step-keys s (Ended serial) k = breaks-keeps keys.invariant cause.Ended serial s k
 step-keys s (Failed serial) k = breaks-keeps keys.invariant cause.Failed serial s k
-step-keys s (Took serial count) k = took-keeps keys.invariant serial count s k
+step-keys s (Took serial count) k = record { routed = k.routed; rules = k.rules; script = k.script }
 step-keys s (Moment t) k = moment-keeps keys.invariant (λ n. refl) (λ n. refl) t s k
 step-keys s (Closed serial) k = close-keeps keys.invariant serial s k
 

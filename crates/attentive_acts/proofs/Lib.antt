@@ -1,0 +1,4 @@
+pub mod SingleActs
+pub mod TakenStays
+pub mod GrowingQueues
+pub mod TakenPrefixes

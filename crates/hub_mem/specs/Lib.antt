@@ -1,0 +1,6 @@
+pub mod Tallies
+pub mod Stories
+pub mod Streams
+pub mod Feeds
+pub mod Answers
+pub mod Standing
