@@ -1,0 +1,5 @@
+pub mod PhaseOf
+pub mod Calls
+pub mod FirstOf
+pub mod Tables
+pub mod Standing

@@ -1,0 +1,16 @@
+//! The connections of a server, in the order of their serials: how far each has come, what is read from
+//! it, what is queued for it, and the clipboards that it sends.
+//!
+//! It owns what the server keeps of a connection, and which one of the machine's connections that is
+//! (`specs/Standing.antt`). It may know phases, messages and queues, but not what a message leads to.
+#![tactic(auto)]
+
+mod connection;
+mod phase;
+mod table;
+#[cfg(test)]
+mod tests;
+
+pub use connection::Connection;
+pub use phase::Phase;
+pub use table::Table;

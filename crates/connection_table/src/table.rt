@@ -1,0 +1,129 @@
+//! All connections.
+
+ghost use Rattle.std.specs.Prelude.{◌≡◌, ◌≤◌, ◌<◌, ◌+◌, ◌^◌, ◌++◌, ◌∷◌, [], Some, length, IfSome, OnOk, OnErr, None, false};
+ghost use Rattle.std.specs.Option.{option_copied, option_map_or};
+ghost use Rattle.std.specs.List.{find, position};
+ghost use Rattle.message_codec.specs.Spelling.{body_of};
+ghost use Rattle.wire_frames.specs.declared.limits.TheConstants.{BODY_LIMIT};
+ghost use Rattle.connection_table.specs.Calls.{Sends, Parts, Drops, Takes};
+ghost use Rattle.connection_table.specs.Tables.{is_of, is_joined_as, is_too_slow, ChangesAt};
+
+use crate::connection::Connection;
+use hello_states::PartCause;
+use message_codec::Msg;
+use share_base::{OutOfMemory, ScreenNo};
+use std::alloc::Global;
+use std::marker::Model;
+
+/// The connections that are open, in the order of their serials. Contracts see the list of them.
+#[derive(Drop)]
+pub struct Table {
+    connections: Vec<Connection>,
+}
+
+impl Model for Table {
+    ghost use Rattle.std.specs.Prelude.{List};
+    ghost use Rattle.connection_table.specs.declared.connection.Connection.{Connection};
+
+    ghost Value = { List Connection };
+
+    ghost view = { λ t. t.connections.items };
+}
+
+impl Table {
+    /// No connection is open. It takes no memory yet.
+    pub fn new(alloc: Global) -> Table
+        ensures { result ≡ [] }
+    {
+        Table {
+            connections: Vec::new(alloc),
+        }
+    }
+
+    /// Returns the connections, by rising serial.
+    pub fn as_slice(&self) -> &[Connection]
+        ensures { result.now ≡ self.now }
+    {
+        self.connections.as_slice()
+    }
+
+    /// Returns the connection of that serial.
+    pub fn get(&self, serial: u64) -> Option<&Connection>
+        ensures { option_copied result ≡ find (is_of serial) self.now }
+    {
+        self.connections.iter().find(|c| c.serial == serial)
+    }
+
+    /// Returns the connection that is joined as that screen.
+    pub fn joined_as(&self, screen: ScreenNo) -> Option<&Connection>
+        ensures { option_copied result ≡ find (is_joined_as screen.0) self.now }
+    {
+        self.connections.iter().find(|c| c.is_joined_as(screen))
+    }
+
+    /// Returns the connection of least serial that isn't parting and of which a frame was left out.
+    pub fn first_slow(&self) -> Option<&Connection>
+        ensures { option_copied result ≡ find is_too_slow self.now }
+    {
+        self.connections.iter().find(|c| c.is_too_slow())
+    }
+
+    /// Tells whether a frame for the connection of that serial was left out of its queue.
+    pub fn is_slow(&self, serial: u64) -> bool
+        ensures { result ≡ option_map_or (λ c. c.queue.is_slow) (find (is_of serial) self.now) false }
+    {
+        match self.get(serial) {
+            Some(connection) => connection.queue.is_slow(),
+            None => false,
+        }
+    }
+
+    // Returns the index of the connection of that serial.
+    fn place_of(&self, serial: u64) -> Option<usize>
+        ensures place { result ≡ position (is_of serial) self.now }
+        ensures within { IfSome result (λ i. i < length self.now) }
+    {
+        self.connections.iter().position(|c| c.serial == serial)
+    }
+
+    /// Adds a connection, whose serial is greater than all others. On `OutOfMemory` nothing changes.
+    pub fn add(&mut self, connection: Connection) -> Result<(), OutOfMemory>
+        ensures ok { OnOk result (self.new ≡ self.old ++ connection ∷ []) }
+        ensures err { OnErr result (self.new ≡ self.old) }
+    {
+        self.connections.push(connection)?;
+        Ok(())
+    }
+
+    /// Queues a message for the connection of that serial. On `OutOfMemory` nothing changes.
+    pub fn send(&mut self, serial: u64, message: &Msg) -> Result<(), OutOfMemory>
+        requires { length (body_of message.now) ≤ BODY_LIMIT }
+        ensures ok { OnOk result (ChangesAt serial (Sends message.now) self.old self.new) }
+        ensures err { OnErr result (self.new ≡ self.old) }
+    {
+        let Some(place) = self.place_of(serial) else {
+            return Ok(());
+        };
+        self.connections[place].send(message)?;
+        Ok(())
+    }
+
+    /// Parts the connection of that serial for that cause at that moment, in milliseconds; where the
+    /// cause says so, what is queued is dropped. One that is parting already keeps its cause.
+    pub fn part(&mut self, serial: u64, cause: PartCause, now: u64)
+        ensures { ChangesAt serial (Parts cause now) self.old self.new }
+    {
+        if let Some(place) = self.place_of(serial) {
+            self.connections[place].part(cause, now);
+        }
+    }
+
+    /// Drops what is queued for the connection of that serial and not taken.
+    pub fn drop_bytes(&mut self, serial: u64)
+        ensures { ChangesAt serial Drops self.old self.new }
+    {
+        if let Some(place) = self.place_of(serial) {
+            self.connections[place].drop_bytes();
+        }
+    }
+}

@@ -1,0 +1,4 @@
+pub mod Entries
+pub mod Takings
+pub mod Mouse
+pub mod Steps

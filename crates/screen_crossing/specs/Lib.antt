@@ -1,0 +1,4 @@
+pub mod Points
+pub mod Ways
+pub mod Showing
+pub mod Remembering

@@ -1,0 +1,3 @@
+pub mod QueueParts
+pub mod Standing
+pub mod Calls

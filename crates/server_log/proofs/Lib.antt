@@ -1,0 +1,2 @@
+pub mod LocalTexts
+pub mod Telling

@@ -1,0 +1,2 @@
+pub mod LocalText
+pub mod Telling
