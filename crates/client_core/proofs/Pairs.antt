@@ -11,7 +11,8 @@ use Rattle.held_inputs.specs.declared.injector.Injector.{Injector}
 use Rattle.held_inputs.specs.Line.{line_of}
 use Rattle.held_inputs.specs.Screen.{Screen, SetsOption, after}
 use Rattle.held_inputs.specs.Stands.{Stands}
-use Rattle.client_core.specs.Hearing.{pairs, option_lines, set_all}
+use Rattle.client_talk.specs.Options.{pairs}
+use Rattle.client_core.specs.Hearing.{option_lines, set_all}
 
 -- ---- lines
 

@@ -20,7 +20,8 @@ use Rattle.held_inputs.proofs.Clearing.{cleared, good-releases}
 use Rattle.held_inputs.proofs.Histories.{good-call, good-nil, balanced-from}
 use Rattle.held_inputs.proofs.Standing.{stands-plain, with_line}
 use Rattle.client_core.specs.declared.printer.Printer.{Printer}
-use Rattle.client_core.specs.Hearing.{pairs, option_lines, set_all, heard, fresh, client, SetsAll}
+use Rattle.client_talk.specs.Options.{pairs}
+use Rattle.client_core.specs.Hearing.{option_lines, set_all, heard, fresh, client, SetsAll}
 use Rattle.client_core.specs.Showing.{Shows, Releases}
 use Rattle.client_core.specs.Kept.{Released}
 

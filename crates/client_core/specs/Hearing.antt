@@ -1,20 +1,16 @@
--- The screen of a client that injects, after the messages that it heard.
+-- The screen of a client, after the messages that it got.
 use Rattle.std.specs.Prelude.{ℕ, List, [], ◌∷◌, ◌++◌, map, fold}
 use Rattle.message_codec.specs.declared.messages.Msg.{Msg}
 use Rattle.message_codec.specs.declared.messages.Msg.TheVariants as msg
 use Rattle.modifier_map.specs.declared.map.ModMap.{ModMap}
 use Rattle.modifier_map.specs.Map.{identity, changed}
+use Rattle.client_talk.specs.Options.{pairs}
 use Rattle.held_inputs.specs.declared.line.Line.{Line}
 use Rattle.held_inputs.specs.declared.line.Line.TheVariants as line
 use Rattle.held_inputs.specs.declared.injector.Injector.{Injector}
 use Rattle.held_inputs.specs.Down.{releases}
 use Rattle.held_inputs.specs.Screen.{Screen, Applies, after}
 use Rattle.held_inputs.specs.Stands.{Stands}
-
--- numbers two by two, a code and its value; an odd last one is left out
-abbrev pub pairs : List ℕ → List (ℕ × ℕ)
-pairs (code ∷ value ∷ words) = (code, value) ∷ pairs words
-pairs words = []
 
 -- a line for each option
 abbrev pub option_lines : List ℕ → List Line
@@ -35,9 +31,13 @@ heard s m = after s (Applies m)
 abbrev pub fresh : Screen
 fresh = record { lines = []; mods = identity }
 
--- the screen after messages, oldest first
+-- the screen after more messages, oldest first
+abbrev pub heard_all : Screen → List Msg → Screen
+heard_all s messages = fold heard s messages
+
+-- the screen after messages
 abbrev pub client : List Msg → Screen
-client messages = fold heard fresh messages
+client messages = heard_all fresh messages
 
 -- its lines, and then those that its end adds
 abbrev pub all_lines : List Msg → List Line

@@ -1,4 +1,7 @@
 pub mod Hearing
 pub mod Showing
 pub mod Ends
+pub mod Clients
+pub mod Happenings
 pub mod Kept
+pub mod Injecting

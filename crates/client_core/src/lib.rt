@@ -1,17 +1,21 @@
-//! The client over bytes: what its screen prints of a server's stream, in whatever pieces it comes, and
-//! what it releases at its end.
+//! The client over bytes and moments: what its screen prints of a server's stream, in whatever pieces it
+//! comes, what it sends, how it ends, and what it releases then.
 //!
-//! It owns which screen a client has after messages (`specs/Hearing.antt`), how a message or a bad
-//! frame ends it (`specs/Ends.antt`), and what it keeps of its stream (`specs/Kept.antt`). It may know
-//! frames, messages and lines, but not where bytes come from or where lines go.
+//! It owns what a client is after a list of happenings (`specs/Clients.antt`, `specs/Happenings.antt`),
+//! which screen it has after messages (`specs/Hearing.antt`), how a message or a bad frame ends it
+//! (`specs/Ends.antt`), and what a core keeps of all that (`specs/Kept.antt`). It may know messages, lines
+//! and conversations, but not where bytes come from or where they and the lines go.
 #![tactic(auto)]
 
 mod client;
 mod client_end;
+mod hearer;
 mod hearing;
 mod options;
 mod printer;
 mod stop;
+#[cfg(test)]
+mod talk_tests;
 #[cfg(test)]
 mod tests;
 

@@ -1,22 +1,13 @@
 //! The options of one message.
 
-ghost use Rattle.std.specs.Prelude.{◌≡◌, ◌≤◌, ◌++◌, ◌∷◌, [], List, ℕ, MatchOption, OnOk, OnErr};
+ghost use Rattle.std.specs.Prelude.{◌≡◌, ◌≤◌, ◌++◌, List, ℕ, OnOk, OnErr};
 ghost use Rattle.std.specs.List.{flat_map};
 ghost use Rattle.held_inputs.specs.Line.{line_of, room_of};
-ghost use Rattle.client_core.specs.Hearing.{pairs, option_lines, SetsAll};
+ghost use Rattle.client_core.specs.Hearing.{option_lines, SetsAll};
 
+use client_talk::first_option;
 use held_inputs::{Injector, Line, put_line};
 use share_base::{OutOfMemory, ShortLine};
-
-/// The first option, and the numbers after it; `None` where there are fewer than two.
-fn first_option(words: &[u32]) -> Option<(u32, u32, &[u32])>
-    ensures { MatchOption result (pairs words.now ≡ []) (λ p. words.now ≡ p.0 ∷ p.1 ∷ p.2.now) }
-{
-    if words.len() < 2 {
-        return None;
-    }
-    Some((words[0], words[1], &words[2..]))
-}
 
 /// Adds one line. After `OutOfMemory` there is none more.
 pub fn add_line(lines: &mut Vec<u8>, line: Line) -> Result<(), OutOfMemory>

@@ -1,9 +1,10 @@
 //! How a message ends a client.
 
-ghost use Rattle.std.specs.Prelude.{◌≡◌};
-ghost use Rattle.client_core.specs.Ends.{stop_of, end_at};
+ghost use Rattle.std.specs.Prelude.{◌≡◌, Some};
+ghost use Rattle.client_core.specs.Ends.{stop_of, stop_joining, end_at, IsOfStream};
 
 use crate::client_end::{ClientEnd, Which};
+use client_talk::is_welcome;
 use message_codec::Msg;
 
 /// How a message ends a client.
@@ -33,9 +34,26 @@ impl Stop {
         }
     }
 
+    /// How the message ends a client that joins: so does the hello of a server of another version.
+    pub fn of_joining(msg: &Msg) -> Option<Stop>
+        ensures { result ≡ stop_joining msg.now }
+    {
+        match msg {
+            Msg::Hello { major, minor } => {
+                if is_welcome(*major, *minor) {
+                    None
+                } else {
+                    Some(Stop::Refused(Which::Version))
+                }
+            }
+            _ => Stop::of(msg),
+        }
+    }
+
     /// The client's end, where the message's frame stands at that place.
     pub fn end(self, place: u64) -> ClientEnd
-        ensures { result ≡ end_at place self }
+        ensures value { result ≡ end_at place self }
+        ensures of_stream { IsOfStream (Some result) }
     {
         match self {
             Stop::Bye => ClientEnd::Bye,

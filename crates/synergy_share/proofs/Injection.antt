@@ -7,7 +7,9 @@ use Rattle.std.proofs.lemmas.List.{append_cancel_left}
 use Rattle.share_base.specs.Told.{after}
 use Rattle.share_base.specs.Reading.{SourceState}
 use Rattle.share_base.specs.Writing.{SinkState}
+use Rattle.message_codec.specs.declared.messages.End.TheVariants as ends
 use Rattle.message_codec.specs.declared.messages.Msg.{Msg}
+use Rattle.message_reader.specs.declared.role.Role.TheVariants as role
 use Rattle.message_codec.specs.Streams.{plain}
 use Rattle.message_codec.specs.Verdicts.{Verdict}
 use Rattle.message_reader.specs.Roles.{reader_of}
@@ -19,8 +21,11 @@ use Rattle.client_core.specs.declared.client_end.ClientEnd.{ClientEnd}
 use Rattle.client_core.specs.declared.client.ClientCore.{ClientCore}
 use Rattle.client_core.specs.Ends.{stop_of, IsHeard}
 use Rattle.client_core.specs.Hearing.{client, all_lines}
-use Rattle.client_core.specs.Kept.{Grows, IsPartial, ClearsLines, EndsReleased, lines_in}
+use Rattle.client_core.specs.Kept.{IsPartial, ClearsLines, EndsReleased, Stands, lines_in}
+use Rattle.client_core.specs.Happenings as happenings
+use Rattle.client_core.specs.Injecting.{injected, Injects, Grows}
 use Rattle.client_core.proofs.Screens as screens
+use Rattle.client_core.proofs.Injections as injections
 use Rattle.client_core.proofs.ScreenRanges.{FieldsFit, fields-fit, fit-all_lines}
 use Rattle.synergy_share.specs.declared.status.Status.{Status}
 use Rattle.synergy_share.specs.declared.status.Status.TheVariants as status
@@ -42,11 +47,14 @@ feeds core new piece g w stream messages taken k =
     let (more, stands) = g.hears stream messages taken k.stands in
     (more, record { role_is = g.role ∙ k.role_is; way_is = k.way_is; stands = stands })
 
-pub clears : (core new : ClientCore) → new.reader ≡ core.reader → ClearsLines core new → Clears Injected core new (lines_in core)
-clears core new same cleared w stream messages taken k = record {
+pub begins : (core : ClientCore) → core.done ≡ None → core.reader.role ≡ role.Observer ends.Server → Stands core happenings.injecting [] → Injected core injecting [] [] []
+begins core goes is stands = record { role_is = is; way_is = refl; stands = injections.injects_first core goes is stands }
+
+pub clears : (core new : ClientCore) → new.reader ≡ core.reader → new.done ≡ core.done → ClearsLines core new → Clears Injected core new (lines_in core)
+clears core new same done cleared w stream messages taken k = record {
   role_is = ap (λ r. r.role) same ∙ k.role_is;
   way_is = k.way_is;
-  stands = cleared stream messages taken k.stands;
+  stands = injections.clears core new same done cleared stream messages taken k.stands;
 }
 
 -- the stream ends
@@ -56,7 +64,7 @@ ends_input core found end none pending is w stream messages taken k =
     let v = s.verdict in
     let heard = done_so (reader_of core.reader.role) stream messages None v (subst (λ (d : Option ClientEnd). IsHeard d v messages) none s.heard) in
     subst (λ (x : Way). EndsHere x end stream messages) (sym k.way_is)
-    (ends_so injecting (reader_of core.reader.role) stream messages found end (ap reader_of k.role_is) v (sym heard.0) heard.1 (pending stream messages taken s) is)
+    (ends_so injecting (reader_of core.reader.role) stream messages found end (ap reader_of k.role_is) v (sym heard.0) heard.1 (pending (injected core.reader.role core.done stream messages) taken s.stands v) is)
 
 -- ---- the last lines
 
@@ -67,8 +75,8 @@ last_are messages taken lines result shown all =
 
 pub adds_last : (core : ClientCore) (result : List ℕ) → EndsReleased core result → AddsLast Injected core result
 adds_last core result released w stream messages taken k =
-    let shows = k.stands.shows in
-    subst (λ (x : Way). result ≡ x.last messages) (sym k.way_is) (last_are messages taken (lines_in core) result shows.printed (released messages taken shows).printed)
+    let shows = k.stands.stands.hears.shows in
+    subst (λ (x : Way). result ≡ x.last messages) (sym k.way_is) (last_are messages taken (lines_in core) result shows.printed (released (injected core.reader.role core.done stream messages) taken k.stands.stands).printed)
 
 -- ---- what was written is balanced
 

@@ -11,14 +11,16 @@ abbrev pub SinkCounts : Status → ℕ → ℕ → Type 0
 SinkCounts status.WriteFault old new = Rises old new
 SinkCounts _ old new = new ≡ old
 
--- the count of the input's faults rose at a read fault, and stayed at every other status; where the last lines could not be written after a read fault, the write fault is answered
+-- the count of the input's faults rose at a read fault, and stayed at every other status; where the
+-- last lines could not be written after a read fault, the write fault is answered
 abbrev pub SourceCounts : Status → ℕ → ℕ → Type 0
 SourceCounts status.ReadFault old new = Rises old new
 SourceCounts status.WriteFault old new = (new ≡ old) ⊎ Rises old new
 SourceCounts _ old new = new ≡ old
 
 abbrev pub Causes : Status → SourceState → SourceState → SinkState → SinkState → Type 0
-Causes end input input' out out' = SourceCounts end input.faults input'.faults × SinkCounts end out.faults out'.faults
+Causes end input input' out out' =
+    SourceCounts end input.faults input'.faults × SinkCounts end out.faults out'.faults
 
 -- the count of the files' faults rose at a read fault, and stayed at every other status
 abbrev pub FileCounts : Status → ℕ → ℕ → Type 0
@@ -26,11 +28,15 @@ FileCounts status.ReadFault old new = Rises old new
 FileCounts _ old new = new ≡ old
 
 abbrev pub FileCauses : Status → ℕ → ℕ → SinkState → SinkState → Type 0
-FileCauses end files files' out out' = FileCounts end files files' × SinkCounts end out.faults out'.faults
+FileCauses end files files' out out' =
+    FileCounts end files files' × SinkCounts end out.faults out'.faults
 
 -- a command reads the input or a file: one of the counts goes by the status, and the other stayed
 abbrev pub ReadCounts : Status → ℕ → ℕ → ℕ → ℕ → Type 0
-ReadCounts end files files' source source' = (FileCounts end files files' × (source' ≡ source)) ⊎ (SourceCounts end source source' × (files' ≡ files))
+ReadCounts end files files' source source' =
+    (FileCounts end files files' × (source' ≡ source))
+    ⊎ (SourceCounts end source source' × (files' ≡ files))
 
 abbrev pub AllCauses : Status → ℕ → ℕ → SourceState → SourceState → SinkState → SinkState → Type 0
-AllCauses end files files' input input' out out' = ReadCounts end files files' input.faults input'.faults × SinkCounts end out.faults out'.faults
+AllCauses end files files' input input' out out' =
+    ReadCounts end files files' input.faults input'.faults × SinkCounts end out.faults out'.faults

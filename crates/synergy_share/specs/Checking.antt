@@ -1,5 +1,6 @@
 -- What becomes of a file with a configuration, and what `check` writes of it.
-use Rattle.std.specs.Prelude.{◌≡◌, ℕ, zero, ◌<◌, ◌≤◌, List, length, Option, IfSome, Result, Ok, Err, ◌⊎◌}
+use Rattle.std.specs.Prelude.{◌≡◌, ℕ, zero, ◌<◌, ◌≤◌, List, length, Option, IfSome, Result, Ok, Err}
+use Rattle.std.specs.Prelude.{◌⊎◌}
 use Rattle.share_base.specs.Told.{after}
 use Rattle.share_base.specs.Counts.{one_more, Rises}
 use Rattle.share_base.specs.Writing.{SinkState, TakesFront}
@@ -15,7 +16,8 @@ use Rattle.synergy_share.specs.declared.status.Status.TheVariants as status
 abbrev pub config_limit : ℕ
 config_limit = 1048576
 
--- the file has a text within the limit, of which this holds; where the file is told, the text is its bytes
+-- the file has a text within the limit, of which this holds; where the file is told, the text is
+-- its bytes
 pub record HasText (told : Option (List ℕ)) (Holds : List ℕ → Type 0) : Type 0 where
   pub text : List ℕ
   pub within : length text ≤ config_limit
@@ -35,7 +37,9 @@ bad_config r = status.BadConfig r.line r.column r.kind
 
 -- the file's text is refused so, or the file has more bytes than the limit
 abbrev pub IsRefused : Option (List ℕ) → ConfigRefusal → Type 0
-IsRefused told r = HasText told (λ text. Refuses text r) ⊎ ((r ≡ too_big) × IfSome told (λ bytes. config_limit < length bytes))
+IsRefused told r =
+    HasText told (λ text. Refuses text r)
+    ⊎ ((r ≡ too_big) × IfSome told (λ bytes. config_limit < length bytes))
 
 -- why a command ends so without a configuration
 abbrev pub NoConfig : Status → Option (List ℕ) → Type 0
@@ -47,7 +51,8 @@ NoConfig _ told = ⊥
 -- what a text gives: the configuration that it spells, or how the command ends without one
 abbrev pub SpellsConfig : Result Configuration Status → List ℕ → Type 0
 SpellsConfig (Ok config) text = Accepts text config
-SpellsConfig (Err (status.BadConfig line column kind)) text = Refuses text (refused line column kind)
+SpellsConfig (Err (status.BadConfig line column kind)) text =
+    Refuses text (refused line column kind)
 SpellsConfig (Err status.OutOfMemory) text = Unit {0}
 SpellsConfig (Err _) text = ⊥
 
@@ -56,7 +61,8 @@ abbrev pub ReadsConfig : Result Configuration Status → Option (List ℕ) → T
 ReadsConfig (Ok config) told = HasConfig told config
 ReadsConfig (Err end) told = NoConfig end told
 
--- how a configuration's normal form is written: all of it, a front of it where the sink failed, or nothing for want of memory
+-- how a configuration's normal form is written: all of it, a front of it where the sink failed, or
+-- nothing for want of memory
 abbrev pub Prints : Status → Configuration → SinkState → SinkState → Type 0
 Prints status.Ok config old new = new.taken ≡ after old.taken (normal config)
 Prints status.WriteFault config old new = TakesFront (normal config) old.taken new.taken
@@ -65,8 +71,10 @@ Prints _ config old new = ⊥
 
 -- each end of `check` with its cause and with what was written
 abbrev pub Checks : Status → Option (List ℕ) → SinkState → SinkState → Type 0
-Checks status.Ok told old new = (config : Configuration) × HasConfig told config × Prints status.Ok config old new
-Checks status.WriteFault told old new = (config : Configuration) × HasConfig told config × Prints status.WriteFault config old new
+Checks status.Ok told old new =
+    (config : Configuration) × HasConfig told config × Prints status.Ok config old new
+Checks status.WriteFault told old new =
+    (config : Configuration) × HasConfig told config × Prints status.WriteFault config old new
 Checks end told old new = NoConfig end told × (new.taken ≡ old.taken)
 
 -- how a command ends by what was given; ok where it goes on
@@ -79,7 +87,8 @@ pub record ReadsOnce (told told' : List ℕ → Option (List ℕ)) (calls calls'
   pub one : calls' ≡ one_more calls
   pub kept : (name : List ℕ) → told' name ≡ told name
 
--- the count of files that are too big rose at a refusal that names no line, and stayed at every other end
+-- the count of files that are too big rose at a refusal that names no line, and stayed at every
+-- other end
 abbrev pub OverCounts : Status → ℕ → ℕ → Type 0
 OverCounts (status.BadConfig zero column kind) old new = Rises old new
 OverCounts _ old new = new ≡ old

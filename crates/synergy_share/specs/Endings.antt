@@ -27,7 +27,8 @@ status_of end.LinkFault = status.LinkFault
 status_of end.WriteFault = status.WriteFault
 status_of end.OutOfMemory = status.OutOfMemory
 
--- the end of the client where the command ends so: the same, or where a client has no such end, the stream's
+-- the end of the client where the command ends so: the same, or where a client has no such end, the
+-- stream's
 abbrev pub client_end_of : Status → ClientEnd
 client_end_of status.Ok = end.Bye
 client_end_of (status.Refused which) = end.Refused which
@@ -48,8 +49,10 @@ status_by to = status_of (end_by to)
 abbrev pub printed_of : {reader : Reader} {stream : List ℕ} → Way → Verdict reader stream → List Msg
 printed_of w verdict = before_end w.ends verdict.messages
 
--- the end that the stream decides: that of the first message that ends the command, else the bad frame's
-abbrev pub decided : {reader : Reader} {stream : List ℕ} → Way → Verdict reader stream → Option Status
+-- the end that the stream decides: that of the first message that ends the command, else the bad
+-- frame's
+abbrev pub decided : {reader : Reader} {stream : List ℕ} → Way → Verdict reader stream
+    → Option Status
 decided w verdict = option_map status_by (outcome w.ends verdict)
 
 -- the end where the stream ends between frames

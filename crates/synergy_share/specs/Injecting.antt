@@ -14,7 +14,8 @@ use Rattle.client_core.specs.declared.client_end.ClientEnd.TheVariants as end
 use Rattle.client_core.specs.declared.client.ClientCore.{ClientCore}
 use Rattle.client_core.specs.declared.stop.Stop.{Stop}
 use Rattle.client_core.specs.Ends.{stop_of, end_by, IsHeard}
-use Rattle.client_core.specs.Kept.{Stands, lines_in}
+use Rattle.client_core.specs.Kept.{lines_in}
+use Rattle.client_core.specs.Injecting.{Injects}
 use Rattle.synergy_share.specs.Ways.{Way, injecting}
 use Rattle.synergy_share.specs.Endings.{status_of, status_by}
 use Rattle.synergy_share.specs.Cores.{IsDone, Prints, Keeps}
@@ -23,7 +24,7 @@ use Rattle.synergy_share.specs.Cores.{IsDone, Prints, Keeps}
 pub record Injected (core : ClientCore) (w : Way) (stream : List ℕ) (messages : List Msg) (taken : List ℕ) : Type 0 where
   pub role_is : core.reader.role ≡ role.Observer ends.Server
   pub way_is : w ≡ injecting
-  pub stands : Stands core stream messages taken
+  pub stands : Injects core stream messages taken
 
 -- ---- what it keeps is what a command wants to know
 
@@ -42,8 +43,8 @@ injected_keeps core w stream messages taken k =
     let found : Prints injecting (reader_of core.reader.role) (lines_in core) done stream messages taken = record {
       verdict = k.stands.verdict;
       ended = done_so (reader_of core.reader.role) stream messages core.done k.stands.verdict k.stands.heard;
-      lines_are = k.stands.shows.printed;
+      lines_are = k.stands.stands.hears.shows.printed;
     } in
     let prints : Prints injecting (plain ends.Server) (lines_in core) done stream messages taken = subst (λ (r : Reader). Prints injecting r (lines_in core) done stream messages taken) (ap reader_of k.role_is) found in
-    let keeps : Keeps injecting (lines_in core) done core.reader.total stream messages taken = record { prints = prints; total_is = k.stands.total } in
+    let keeps : Keeps injecting (lines_in core) done core.reader.total stream messages taken = record { prints = prints; total_is = k.stands.stands.total } in
     subst (λ (v : Way). Keeps v (lines_in core) done core.reader.total stream messages taken) (sym k.way_is) keeps

@@ -19,13 +19,15 @@ use Rattle.synergy_share.specs.Ways.{Way, showing}
 use Rattle.synergy_share.specs.Cores.{Prints, Keeps}
 
 -- these messages of the stream were shown, and these lines of them were taken
-pub record Lists (from : End) (r : ReaderParts) (lines : List ℕ) (done : Option Status) (stream : List ℕ) (messages : List Msg) (taken : List ℕ) : Type 0 where
+pub record Lists (from : End) (r : ReaderParts) (lines : List ℕ) (done : Option Status)
+    (stream : List ℕ) (messages : List Msg) (taken : List ℕ) : Type 0 where
   pub prints : Prints (showing from) (reader_of r.role) lines done stream messages taken
   pub open_at : done ≡ None → IsOpen r stream prints.verdict.messages
   pub total_is : r.total ≤ length stream
 
 -- the core stands for them, on its way
-pub record Shown (core : ShowCore) (w : Way) (stream : List ℕ) (messages : List Msg) (taken : List ℕ) : Type 0 where
+pub record Shown (core : ShowCore) (w : Way) (stream : List ℕ) (messages : List Msg)
+    (taken : List ℕ) : Type 0 where
   pub role_is : core.reader.role ≡ role.Observer core.from
   pub way_is : w ≡ showing core.from
   pub lists : Lists core.from core.reader core.lines core.done stream messages taken
@@ -36,13 +38,24 @@ end_after (Ok bad) = option_map (λ (b : BadFrame). status.BadFrames b.place b.r
 end_after (Err memory) = Some status.OutOfMemory
 
 -- the messages of a piece were shown
-pub record TakesPiece (r r' : ReaderParts) (lines lines' : List ℕ) (answer : Result (Option BadFrame) OutOfMemory) (piece : List ℕ) : Type 0 where
+pub record TakesPiece (r r' : ReaderParts) (lines lines' : List ℕ)
+    (answer : Result (Option BadFrame) OutOfMemory) (piece : List ℕ) : Type 0 where
   pub role_is : r'.role ≡ r.role
-  pub shows : (from : End) (stream : List ℕ) (messages : List Msg) (taken : List ℕ) → Lists from r lines None stream messages taken → (more : List Msg) × Lists from r' lines' (end_after answer) (stream ++ piece) (messages ++ more) taken
+  pub shows : (from : End) (stream : List ℕ) (messages : List Msg) (taken : List ℕ)
+      → Lists from r lines None stream messages taken
+      → (more : List Msg)
+      × Lists from r' lines' (end_after answer) (stream ++ piece) (messages ++ more) taken
 
-pub shown_keeps : (core : ShowCore) (w : Way) (stream : List ℕ) (messages : List Msg) (taken : List ℕ) → Shown core w stream messages taken → Keeps w core.lines core.done core.reader.total stream messages taken
+pub shown_keeps : (core : ShowCore) (w : Way) (stream : List ℕ) (messages : List Msg)
+    (taken : List ℕ)
+    → Shown core w stream messages taken
+    → Keeps w core.lines core.done core.reader.total stream messages taken
 shown_keeps core w stream messages taken k =
-    let prints : Prints (showing core.from) (plain core.from) core.lines core.done stream messages taken =
-    subst (λ (r : Reader). Prints (showing core.from) r core.lines core.done stream messages taken) (ap reader_of k.role_is) k.lists.prints in
-    let keeps : Keeps (showing core.from) core.lines core.done core.reader.total stream messages taken = record { prints = prints; total_is = k.lists.total_is } in
-    subst (λ (v : Way). Keeps v core.lines core.done core.reader.total stream messages taken) (sym k.way_is) keeps
+    let prints : Prints (showing core.from) (plain core.from) core.lines core.done stream messages
+    taken =
+    subst (λ (r : Reader). Prints (showing core.from) r core.lines core.done stream messages taken)
+    (ap reader_of k.role_is) k.lists.prints in
+    let keeps : Keeps (showing core.from) core.lines core.done core.reader.total stream messages
+    taken = record { prints = prints; total_is = k.lists.total_is } in
+    subst (λ (v : Way). Keeps v core.lines core.done core.reader.total stream messages taken)
+    (sym k.way_is) keeps

@@ -17,8 +17,12 @@ status_row code text = record { code = code; text = text }
 
 abbrev pub row : Status → StatusRow
 row status.Ok = status_row 0 []
-row (status.BadConfig line column kind) = status_row 1 (codes "config " ++ decimal line ++ 32 ∷ [] ++ decimal column ++ 32 ∷ [] ++ kind_text kind ++ 10 ∷ [])
-row (status.BadFrames place reason) = status_row 1 (codes "frames " ++ decimal place ++ 32 ∷ [] ++ reason_text reason ++ 10 ∷ [])
+row (status.BadConfig line column kind) =
+    status_row 1
+    (codes "config " ++ decimal line ++ 32 ∷ [] ++ decimal column ++ 32 ∷ [] ++ kind_text kind
+    ++ 10 ∷ [])
+row (status.BadFrames place reason) =
+    status_row 1 (codes "frames " ++ decimal place ++ 32 ∷ [] ++ reason_text reason ++ 10 ∷ [])
 row status.InputTooLong = status_row 1 (codes "input too long\n")
 row status.Usage = status_row 2 (codes "usage\n")
 row status.ReadFault = status_row 3 (codes "read fault\n")

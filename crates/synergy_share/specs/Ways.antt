@@ -11,7 +11,9 @@ use Rattle.client_core.specs.declared.stop.Stop.{Stop}
 use Rattle.client_core.specs.Hearing.{client}
 use Rattle.client_core.specs.Ends.{stop_of}
 
--- whose messages are read; which of them ends the command, and how; the lines of messages, and those that are added after them at the end; and whether the command waits for a message that ends it
+-- whose messages are read; which of them ends the command, and how; the lines of messages, and
+-- those that are added after them at the end; and whether the command waits for a message that ends
+-- it
 pub record Way : Type 0 where
   pub sender : End
   pub ends : Msg → Option Stop
@@ -24,9 +26,17 @@ abbrev pub shown : Msg → List ℕ
 shown m = show_line m ++ 10 ∷ []
 
 abbrev pub showing : End → Way
-showing from = record { sender = from; ends = λ m. None; text = flat_map shown; last = λ messages. []; waits = false }
+showing from =
+    record {
+      sender = from;
+      ends = λ m. None;
+      text = flat_map shown;
+      last = λ messages. [];
+      waits = false;
+    }
 
--- the lines of a client that injects a server's messages, and at its end the ups of all that is down
+-- the lines of a client that injects a server's messages, and at its end the ups of all that is
+-- down
 abbrev pub injecting : Way
 injecting = record {
   sender = ends.Server;

@@ -12,20 +12,23 @@ const NOTHING: &[u8] =
 
 const END: &[u8] = b"end\n";
 
-/// Three desks, of which the last has an alias, in the order of their lines. Links name the alias, and
-/// the normal form names the screen.
-const SCREENS: &[u8] =
-    b"section: screens\n\tdesk:\n\t\thalfDuplexCapsLock = false\n\t\tswitchCorners = none +top-left\n\t\tswitchCornerSize = 20\n\tpad:\n\t\tshift = ctrl\n\tlap.local:\nend\n";
+/// Three desks, of which the last has an alias, in the order of their lines. Links name the alias,
+/// and the normal form names the screen.
+const SCREENS: &[u8] = b"section: screens\n\tdesk:\n\t\thalfDuplexCapsLock = false\n\
+    \t\tswitchCorners = none +top-left\n\t\tswitchCornerSize = 20\n\tpad:\n\t\tshift = ctrl\n\
+    \tlap.local:\nend\n";
 
 const ALIASES: &[u8] = b"section: aliases\n\tlap.local:\n\t\tlap\nend\n";
 
 const FIRST_LINK: &[u8] = b"section: links\n\tdesk:\n\t\tright(0,50) = pad\n";
 
 const LINKS: &[u8] =
-    b"\t\tright(50,100) = lap   # lower half\n\tpad:\n\t\tleft = desk(0,50)\n\tlap:\n\t\tleft = desk(50,100)\nend\n";
+    b"\t\tright(50,100) = lap   # lower half\n\tpad:\n\t\tleft = desk(0,50)\n\tlap:\n\
+    \t\tleft = desk(50,100)\nend\n";
 
 const NORMAL_LINKS: &[u8] =
-    b"\t\tright(50,100) = lap.local\n\tpad:\n\t\tleft = desk(0,50)\n\tlap.local:\n\t\tleft = desk(50,100)\nend\n";
+    b"\t\tright(50,100) = lap.local\n\tpad:\n\t\tleft = desk(0,50)\n\tlap.local:\n\
+    \t\tleft = desk(50,100)\nend\n";
 
 const OPTIONS: &[u8] = b"section: options\n\theartbeat = 5000\n\tswitchDelay = 250\n";
 
@@ -128,7 +131,8 @@ fn refused_texts_print_nothing(rt: HostRuntime) {
         ),
         (
             &[
-                b"section: screens\n\tdesk:\nend\nsection: links\n\tdesk:\n\t\tright(0,60) = desk\n\t\tright(50,100) = desk\n",
+                b"section: screens\n\tdesk:\nend\nsection: links\n\tdesk:\n\t\tright(0,60) = desk\n\
+                \t\tright(50,100) = desk\n",
             ],
             refused(7, 3, ConfigKind::Overlap),
         ),

@@ -2,7 +2,8 @@
 
 ghost use Rattle.std.specs.Prelude.{◌-◌, ◌<◌, ◌^◌, length};
 ghost use Rattle.synergy_share.specs.Causes.{FileCounts, SinkCounts, FileCauses};
-ghost use Rattle.synergy_share.specs.Checking.{ReadsConfig, SpellsConfig, ReadsOnce, OverCounts, Prints, Checks, end_of};
+ghost use Rattle.synergy_share.specs.Checking.{ReadsConfig, SpellsConfig, ReadsOnce, OverCounts};
+ghost use Rattle.synergy_share.specs.Checking.{Prints, Checks, end_of};
 
 use crate::status::Status;
 use config_text::{Config, ConfigFault, ConfigKind, parse, print};
@@ -30,7 +31,8 @@ fn parse_config(alloc: Global, text: &[u8]) -> Result<Config, Status>
 /// The configuration in the file of that name, or how a command ends without it.
 fn read_config<F: Files>(alloc: Global, name: &str, files: &mut F) -> Result<Config, Status>
     ensures reads { ReadsConfig result (F.told files.old name.now) }
-    ensures once { ReadsOnce (F.told files.old) (F.told files.new) (F.calls files.old) (F.calls files.new) }
+    ensures once { ReadsOnce (F.told files.old) (F.told files.new) (F.calls files.old)
+        (F.calls files.new) }
     ensures overs { OverCounts (end_of result) (F.overs files.old) (F.overs files.new) }
     ensures faults { FileCounts (end_of result) (F.faults files.old) (F.faults files.new) }
 {
@@ -63,20 +65,23 @@ fn print_config<K: Sink>(alloc: Global, config: &Config, out: &mut K) -> Status
 
 /// Reads the configuration in the file of that name, whole and once, and writes its normal form.
 ///
-/// It ends as `Ok` where all was written; as `BadConfig` where the text is refused, or, with line 0 and
-/// column 0 as `TooMany`, where the file has more than 1,048,576 bytes; as `ReadFault` where the file
-/// could not be read. Nothing is written at these, nor at `OutOfMemory`; at `WriteFault` a front of the
-/// normal form is.
+/// It ends as `Ok` where all was written; as `BadConfig` where the text is refused, or, with line 0
+/// and column 0 as `TooMany`, where the file has more than 1,048,576 bytes; as `ReadFault` where
+/// the file could not be read. Nothing is written at these, nor at `OutOfMemory`; at `WriteFault` a
+/// front of the normal form is.
 pub fn run_check<F: Files, K: Sink>(
     alloc: Global,
     config: &str,
     files: &mut F,
     out: &mut K,
 ) -> Status
-    ensures checks { Checks result (F.told files.old config.now) (K.state out.old) (K.state out.new) }
-    ensures reads_once { ReadsOnce (F.told files.old) (F.told files.new) (F.calls files.old) (F.calls files.new) }
+    ensures checks { Checks result (F.told files.old config.now) (K.state out.old)
+        (K.state out.new) }
+    ensures reads_once { ReadsOnce (F.told files.old) (F.told files.new) (F.calls files.old)
+        (F.calls files.new) }
     ensures overs { OverCounts result (F.overs files.old) (F.overs files.new) }
-    ensures causes { FileCauses result (F.faults files.old) (F.faults files.new) (K.state out.old) (K.state out.new) }
+    ensures causes { FileCauses result (F.faults files.old) (F.faults files.new) (K.state out.old)
+        (K.state out.new) }
 {
     match read_config(alloc, config, files) {
         Ok(config) => print_config(alloc, &config, out),

@@ -19,7 +19,7 @@ pub enum Command<'a> {
 }
 
 /// The command that the words name. They are those after the program's name, and their number is
-/// exact. `None` comes exactly where they name no command.
+/// exact. `None` if they name no command.
 pub fn form(words: &[String]) -> Option<Command<'_>>
     ensures named { IfSome result (λ command. Names (form_of command) words.now) }
     ensures none { IfNone result (NoForm words.now) }
@@ -41,8 +41,12 @@ fn single(word: &String) -> Option<Command<'_>>
 }
 
 fn pair<'a>(command: &String, word: &'a String) -> Option<Command<'a>>
-    ensures named { IfSome result (λ found. words_of (form_of found) ≡ string_bytes command.now ∷ string_bytes word.now ∷ []) }
-    ensures none { IfNone result ((wanted : Form) → words_of wanted ≡ string_bytes command.now ∷ string_bytes word.now ∷ [] → ⊥) }
+    ensures named { IfSome result
+        (λ found. words_of (form_of found)
+        ≡ string_bytes command.now ∷ string_bytes word.now ∷ []) }
+    ensures none { IfNone result
+        ((wanted : Form) → words_of wanted ≡ string_bytes command.now ∷ string_bytes word.now ∷ []
+        → ⊥) }
 {
     if command.as_str() == "check" {
         return Some(Command::Check(word.as_str()));

@@ -9,8 +9,8 @@ ghost use Rattle.synergy_share.specs.Cores.{Keeps, Feeds, Clears, EndsInput, Add
 use crate::status::Status;
 use share_base::Lines;
 
-/// The core of a command: it is fed a stream in whatever pieces it comes, and keeps the lines that it
-/// prints of it until they are taken. It reads and writes nothing itself.
+/// The core of a command: it is fed a stream in whatever pieces it comes, and keeps the lines that
+/// it prints of it until they are taken. It reads and writes nothing itself.
 pub trait LineCore {
     /// How it prints.
     ghost way: { Self → Way };
@@ -24,11 +24,12 @@ pub trait LineCore {
     /// How many bytes it counted.
     ghost total: { Self → ℕ };
 
-    /// On that way, it was fed this stream and printed these messages of it, and these lines were taken.
+    /// On that way, it was fed this stream and printed these messages of it, and these lines were
+    /// taken.
     ghost kept: { Self → Way → List ℕ → List Msg → List ℕ → Type 0 };
 
-    /// Prints the messages of the next piece. Fewer than 2^63 bytes are fed in all, and none once the
-    /// core is done. Where memory runs out, it is done as `OutOfMemory`.
+    /// Prints the messages of the next piece. Fewer than 2^63 bytes are fed in all, and none once
+    /// the core is done. Where memory runs out, it is done as `OutOfMemory`.
     fn feed(&mut self, piece: &[u8])
         requires goes { done self.old ≡ None }
         requires fits { total self.old + length piece.now < 2 ^ 63 }
@@ -53,9 +54,12 @@ pub trait LineCore {
         requires { done self.now ≡ None }
         ensures { EndsInput kept self.now result };
 
-    /// Returns the lines that are added at the end of the command, which ends so. It takes no memory.
+    /// Returns the lines that are added at the end of the command, which ends so. It takes no
+    /// memory.
     fn last_lines(&mut self, end: Status) -> Lines
         ensures { AddsLast kept self.old result };
 
-    ghost keeps: { (core : Self) (w : Way) (stream : List ℕ) (messages : List Msg) (taken : List ℕ) → kept core w stream messages taken → Keeps w (lines core) (done core) (total core) stream messages taken };
+    ghost keeps: { (core : Self) (w : Way) (stream : List ℕ) (messages : List Msg) (taken : List ℕ)
+        → kept core w stream messages taken
+        → Keeps w (lines core) (done core) (total core) stream messages taken };
 }

@@ -1,7 +1,8 @@
 //! The program: the top call, its commands, and the adapters of the system's streams and files.
 //!
-//! The crate owns the words that name a command, the statuses that a command ends with, and the statement of
-//! what a command does with the bytes that it reads (`specs/`). What the bytes mean, the crates below know.
+//! The crate owns the words that name a command, the statuses that a command ends with, and the
+//! statement of what a command does with the bytes that it reads (`specs/`). What the bytes mean,
+//! the crates below know.
 #![tactic(auto)]
 
 #[cfg(test)]

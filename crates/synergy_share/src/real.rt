@@ -1,9 +1,9 @@
 //! Adapters from the standard library's readers, writers and files to a source, a sink and files.
 //!
-//! They count their faults, and tell no bytes to the layers above, since no clause can say what the system
-//! gives or takes. Where the reader or writer below says which bytes it holds, as one in memory does, a
-//! read and a write answer by exactly these. A read or a write that a signal interrupted is made again,
-//! and is not a fault.
+//! They count their faults, and tell no bytes to the layers above, since no clause can say what the
+//! system gives or takes. Where the reader or writer below says which bytes it holds, as one in
+//! memory does, a read and a write answer by exactly these. A read or a write that a signal
+//! interrupted is made again, and is not a fault.
 
 ghost use Rattle.std.specs.Prelude.{◌<◌, length};
 ghost use Rattle.share_base.specs.Reading.{FitsRead, Reads};
@@ -36,7 +36,8 @@ impl<R: Read + Drop> Source for StdSource<R> {
     fn read(&mut self, buf: &mut [u8]) -> SourceAnswer
         requires { 0 < length buf.old }
         ensures fits { FitsRead result (length buf.old) }
-        ensures reads { Reads result buf.new (unknown_input self.old.faults) (unknown_input self.new.faults) }
+        ensures reads { Reads result buf.new (unknown_input self.old.faults)
+            (unknown_input self.new.faults) }
         ensures known { ReadsFrom R.remaining self.old.reader self.new.reader result buf.new }
     {
         for _ in 0..u64::MAX {
@@ -72,7 +73,8 @@ impl<W: Write + Drop> Sink for StdSink<W> {
     /// A write that takes nothing counts as a failure.
     fn write(&mut self, bytes: &[u8]) -> SinkAnswer
         ensures fits { FitsWrite result (length bytes.now) }
-        ensures writes { Writes result bytes.now (unknown_output self.old.faults) (unknown_output self.new.faults) }
+        ensures writes { Writes result bytes.now (unknown_output self.old.faults)
+            (unknown_output self.new.faults) }
         ensures known { WritesTo W.contents self.old.writer self.new.writer result bytes.now }
     {
         for _ in 0..u64::MAX {
@@ -111,7 +113,8 @@ impl<'a, R: fs::Files> StdFiles<'a, R> {
     }
 }
 
-/// Reads a source to its end, as a file of at most `limit` bytes. At most one byte past the limit is read.
+/// Reads a source to its end, as a file of at most `limit` bytes. At most one byte past the limit
+/// is read.
 fn read_whole<S: Source>(alloc: Global, source: &mut S, limit: u64) -> FileAnswer
     ensures gives { FileGives result limit (S.state source.old).left }
     ensures faults { FileFaults result (S.state source.old).faults (S.state source.new).faults }

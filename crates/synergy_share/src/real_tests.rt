@@ -1,4 +1,5 @@
-//! The adapters, over a device that moves few bytes at a time, is interrupted and fails, and over files.
+//! The adapters, over a device that moves few bytes at a time, is interrupted and fails, and over
+//! files.
 
 ghost use Rattle.std.specs.Prelude.{◌≤◌, IfOk};
 
@@ -161,7 +162,9 @@ fn a_configuration_is_read_from_a_file(rt: HostRuntime) -> Result<(), Fail> {
     assert_eq!(rt; status, Status::Ok);
     assert_eq!(rt;
         out.bytes(),
-        b"section: screens\nend\nsection: aliases\nend\nsection: links\nend\nsection: options\n\theartbeat = 5000\nend\n".as_slice()
+        b"section: screens\nend\nsection: aliases\nend\nsection: links\nend\nsection: options\n\
+        \theartbeat = 5000\nend\n"
+            .as_slice()
     );
     Ok(())
 }

@@ -57,7 +57,9 @@ pub enum Status {
 /// Where and why a configuration is refused, on a line that is empty yet.
 fn put_refusal(text: &mut Lines, line: u32, column: u32, kind: ConfigKind)
     requires { text.old ≡ [] }
-    ensures { text.new ≡ codes "config " ++ decimal line ++ 32 ∷ [] ++ decimal column ++ 32 ∷ [] ++ kind_text kind ++ 10 ∷ [] }
+    ensures { text.new
+        ≡ codes "config " ++ decimal line ++ 32 ∷ [] ++ decimal column ++ 32 ∷ [] ++ kind_text kind
+        ++ 10 ∷ [] }
 {
     text.extend(b"config ");
     put_u32(text, line);

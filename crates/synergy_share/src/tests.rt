@@ -26,7 +26,8 @@ const HELLO: [u8; 22] = *b"\x00\x00\x00\x12Synergy\x00\x01\x00\x06\x00\x00\x00\x
 
 const TOO_LONG: [u8; 4] = *b"\x00\x40\x00\x01";
 
-/// Whose messages are shown, or that a server's are injected; what is read; at which calls the sink fails; and what must come of it.
+/// Whose messages are shown, or that a server's are injected; what is read; at which calls the sink
+/// fails; and what must come of it.
 #[derive(Drop)]
 struct Row<'a> {
     shows: Option<End>,
@@ -107,7 +108,8 @@ fn injection_lets_go_at_every_end(rt: HostRuntime) {
             shows: None,
             parts: &[&ENTER, &KEY, &BUTTON, &LEAVE, &BYE],
             failing: &[],
-            lines: b"enter 0 384 1 0\nkey down 97 38 0\nbutton down 3\nkey up 97 38\nbutton up 3\nleave\n",
+            lines: b"enter 0 384 1 0\nkey down 97 38 0\nbutton down 3\nkey up 97 38\nbutton up 3\n\
+            leave\n",
             status: Status::Ok,
         },
         Row {

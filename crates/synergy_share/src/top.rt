@@ -14,9 +14,9 @@ use crate::status::Status;
 use share_base::{Files, Sink, Source};
 use std::alloc::Global;
 
-/// Does what the words say, those after the program's name. It answers `Usage` exactly where they
-/// name no command, and then nothing was touched; else it answers what the command's own call
-/// answers, and what that call doesn't take is untouched.
+/// Does what the words say, those after the program's name. It answers `Usage` if they name no
+/// command, and then nothing was touched; else it answers what the command's own call answers, and
+/// what that call doesn't take is untouched.
 pub fn run<F: Files, S: Source, K: Sink>(
     alloc: Global,
     words: &[String],
@@ -26,10 +26,13 @@ pub fn run<F: Files, S: Source, K: Sink>(
 ) -> Status
     requires { NotSet (S.state input.old).ended }
     ensures does { (command : Form) → Names command words.now → IfSome (way_of command)
-        (λ way. Reads way result (S.state input.old) (S.state input.new) (K.state out.old) (K.state out.new)) }
+        (λ way.
+        Reads way result (S.state input.old) (S.state input.new) (K.state out.old)
+        (K.state out.new)) }
     ensures stops { (command : Form) → Names command words.now → IfSome (way_of command)
         (λ way. Stops way (S.state input.old) (S.state input.new)) }
-    ensures released { Names Inject words.now → Releases result (K.state out.old) (K.state out.new) }
+    ensures released { Names Inject words.now
+        → Releases result (K.state out.old) (K.state out.new) }
     ensures checks { (config : List ℕ) → Names (Check config) words.now
         → Checks result (F.told files.old config) (K.state out.old) (K.state out.new) }
     ensures reads_once { (config : List ℕ) → Names (Check config) words.now

@@ -3,4 +3,4 @@ use Rattle.client_core.proofs.Screens.{released}
 use Rattle.client_core.proofs.client.ClientCore.ended.Goals as goal
 
 pub returns-clause-released : goal.returns-clause-released
-returns-clause-released c = λ messages front h. released messages _ (c.release_all.ensures.released (client messages) front h)
+returns-clause-released c = λ k front h. released k.shown _ (c.release_all.ensures.released (client k.shown) front h.hears.shows)

@@ -1,0 +1,5 @@
+pub mod Options
+pub mod Outboxes
+pub mod Talks
+pub mod Answers
+pub mod Scripts
