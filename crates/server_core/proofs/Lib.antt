@@ -1,0 +1,17 @@
+pub mod LogText
+pub mod Told
+pub mod Open
+pub mod Changed
+pub mod Moved
+pub mod Found
+pub mod Kept
+pub mod Ahead
+pub mod JoinedAs
+pub mod Coordinates
+pub mod CleanClips
+pub mod HandedOut
+pub mod SentClips
+pub mod Farewells
+pub mod SlowFound
+pub mod Loops
+pub mod SlowTurns

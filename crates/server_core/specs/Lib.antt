@@ -1,0 +1,9 @@
+pub mod Targets
+pub mod Lines
+pub mod Scripts
+pub mod Standing
+pub mod Leading
+pub mod Shapes
+pub mod Sending
+pub mod HandingOut
+pub mod SlowOnes

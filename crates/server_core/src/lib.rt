@@ -1,0 +1,26 @@
+//! The server over happenings: connections, their bytes and the clock in, frames and the log out.
+//!
+//! It owns what the server keeps, and which state of the machine that is (`specs/Standing.antt`). Each of
+//! its rules is the machine's rule of the same name. It may know everything below it, but no socket, and
+//! no time but the moment that it is told.
+#![tactic(auto)]
+
+mod actions;
+mod clipboards;
+mod events;
+mod log_lines;
+mod partings;
+mod primary;
+mod routes;
+mod routing;
+mod running;
+mod screens;
+mod server;
+mod slow;
+mod start;
+mod switching;
+mod target;
+
+pub use primary::{PrimaryShape, ServedScript};
+pub use server::ServerCore;
+pub use target::Target;
