@@ -85,7 +85,7 @@ AllTakenAtClosings =
     (config : Configuration) (script : Script) (now : ℕ) (before after : List Act) (c : ℕ)
     → AreAttentive config script now (before ++ act.Close c ∷ after) → (judge_of config script now before).place ≡ Closes
     → (k : Connection) → connection (judge_of config script now before).state c ≡ Some k
-    → (k.is_dropped ≡ true) ⊎ (is_time_over k.phase (judge_of config script now before).state ≡ true) ⊎ (taken_bytes c before ≡ queue (judge_of config script now before).state.routed c)
+    → (k.is_dropped ≡ true) ⊎ ((is_time_over k.phase (judge_of config script now before).state ≡ true) ⊎ (taken_bytes c before ≡ queue (judge_of config script now before).state.routed c))
 
 -- ---- when the run has quit
 
