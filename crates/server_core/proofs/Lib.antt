@@ -15,3 +15,9 @@ pub mod Farewells
 pub mod SlowFound
 pub mod Loops
 pub mod SlowTurns
+pub mod Besides
+pub mod Gone
+pub mod Received
+pub mod Taken
+pub mod Closed
+pub mod Judged

@@ -7,6 +7,8 @@
 
 mod actions;
 mod clipboards;
+mod closing;
+mod ends;
 mod events;
 mod log_lines;
 mod partings;
@@ -19,6 +21,7 @@ mod server;
 mod slow;
 mod start;
 mod switching;
+mod taking;
 mod target;
 
 pub use primary::{PrimaryShape, ServedScript};
