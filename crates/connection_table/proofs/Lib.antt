@@ -1,3 +1,5 @@
 pub mod FirstOf
 pub mod Pairs
 pub mod Standing
+pub mod Readings
+pub mod Removing

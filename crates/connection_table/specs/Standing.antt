@@ -11,10 +11,11 @@ use Rattle.send_queue.specs.Standing as queues
 use Rattle.connection_table.specs.declared.connection.Connection as kept
 use Rattle.connection_table.specs.PhaseOf.{phase_of}
 
--- what is told beside the machine's connections: the entries that were routed, the messages that the reader of each
--- gave, and the most bytes of a clipboard
+-- what is told beside the machine's connections: the entries that were routed, the bytes that came from each and the
+-- messages that its reader gave of them, and the most bytes of a clipboard
 pub record Surroundings : Type 0 where
   pub routed : List Entry
+  pub received : ℕ → List ℕ
   pub given : ℕ → List Msg
   pub limit : ℕ
 
@@ -22,12 +23,13 @@ pub record Surroundings : Type 0 where
 abbrev pub told : Entry → Surroundings → Surroundings
 told e a = record a { routed = a.routed ++ e ∷ [] }
 
--- the kept connection is the machine's
+-- the kept connection is the machine's; the reader of a parting one is never asked again
 pub record StandsFor (a : Surroundings) (k : kept.Connection) (c : Connection) : Type 0 where
   pub serial : k.serial ≡ c.serial
   pub phase : phase_of k.phase ≡ c.phase
   pub role : k.reader.role ≡ role.Server
-  pub reader : Represents k.reader c.received (a.given c.serial)
+  pub heard : is_live c ≡ true → c.received ≡ a.received c.serial
+  pub reader : is_live c ≡ true → Represents k.reader c.received (a.given c.serial)
   pub clipboard : assemblies.StandsFor a.limit Clipboard k.clipboard c.parts
   pub selection : assemblies.StandsFor a.limit Selection k.selection c.parts
   pub queue : queues.Stands k.queue a.routed c.serial

@@ -1,14 +1,15 @@
 //! One connection.
 
-ghost use Rattle.std.specs.Prelude.{◌≡◌, ◌≤◌, ◌<◌, ◌+◌, ◌^◌, [], None, length, not, OnOk, OnErr};
+ghost use Rattle.std.specs.Prelude.{◌≡◌, ◌≤◌, ◌<◌, ◌+◌, ◌^◌, [], None, length, not, OnOk, OnErr, IfOk};
 ghost use Rattle.message_codec.specs.Spelling.{body_of};
 ghost use Rattle.wire_frames.specs.declared.limits.TheConstants.{BODY_LIMIT};
 ghost use Rattle.hello_states.specs.Phases.{is_parting};
 ghost use Rattle.connection_table.specs.PhaseOf.{phase_of};
 ghost use Rattle.connection_table.specs.Tables.{is_joined_as, is_too_slow};
-ghost use Rattle.connection_table.specs.Calls.{Begins, Sends, Parts, Drops, Takes};
+ghost use Rattle.connection_table.specs.Calls.{Begins, Reads, Sends, Parts, Drops, Takes};
 
 use crate::phase::Phase;
+use crate::reading::{Reading, read_piece};
 use clip_chunks::Assembly;
 use hello_states::{Greeting, PartCause, Parting};
 use message_codec::Msg;
@@ -89,6 +90,14 @@ impl Connection {
         ensures { result ≡ is_too_slow self.now }
     {
         self.phase.is_live() && self.queue.is_slow()
+    }
+
+    // Reads the next piece of the connection's bytes, which are fewer than 2^63 in all.
+    pub(crate) fn read(&mut self, alloc: Global, piece: &[u8]) -> Result<Reading, OutOfMemory>
+        requires { self.old.reader.total + length piece.now < 2 ^ 63 }
+        ensures { IfOk result (λ reading. Reads piece.now reading self.old self.new) }
+    {
+        read_piece(alloc, &mut self.reader, piece)
     }
 
     // Queues a message. On `OutOfMemory` nothing changes.

@@ -7,10 +7,12 @@
 
 mod connection;
 mod phase;
+mod reading;
 mod table;
 #[cfg(test)]
 mod tests;
 
 pub use connection::Connection;
 pub use phase::Phase;
+pub use reading::Reading;
 pub use table::Table;

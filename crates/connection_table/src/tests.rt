@@ -25,3 +25,15 @@ fn a_connection_is_found_by_its_serial(rt: HostRuntime) -> Result<(), Fail> {
     assert!(rt; table.get(3).is_some_and(|c| c.is_live()));
     Ok(())
 }
+
+/// A removed connection is found no more, and the others are.
+#[test]
+fn a_removed_connection_is_gone(rt: HostRuntime) -> Result<(), Fail> {
+    let mut table = Table::new(rt.alloc());
+    table.add(Connection::begin(rt.alloc(), 3, 40, 1024))?;
+    table.add(Connection::begin(rt.alloc(), 7, 41, 1024))?;
+    table.remove(3);
+    assert!(rt; table.get(3).is_none());
+    assert!(rt; table.get(7).is_some());
+    Ok(())
+}

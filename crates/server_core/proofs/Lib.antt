@@ -17,3 +17,9 @@ pub mod Loops
 pub mod SlowTurns
 pub mod Passed
 pub mod JoinedScreens
+pub mod Besides
+pub mod Gone
+pub mod Received
+pub mod Taken
+pub mod Closed
+pub mod Judged

@@ -9,6 +9,8 @@ mod actions;
 mod clipboards;
 mod clock;
 mod cursor;
+mod closing;
+mod ends;
 mod events;
 mod gate;
 mod joined;
@@ -24,6 +26,7 @@ mod server;
 mod slow;
 mod start;
 mod switching;
+mod taking;
 mod target;
 mod ways;
 
