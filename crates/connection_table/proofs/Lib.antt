@@ -1,3 +1,5 @@
 pub mod FirstOf
 pub mod Pairs
+pub mod PartsTaken
 pub mod Standing
+pub mod Advancing
