@@ -5,9 +5,15 @@
 //! no time but the moment that it is told.
 #![tactic(auto)]
 
+mod accepting;
 mod actions;
 mod clipboards;
 mod events;
+mod grabs;
+mod hearing;
+mod hello;
+mod information;
+mod joined;
 mod log_lines;
 mod partings;
 mod primary;
