@@ -15,12 +15,12 @@ pub mod Farewells
 pub mod SlowFound
 pub mod Loops
 pub mod SlowTurns
-pub mod Joined
+pub mod JoinedScreens
 pub mod Indexed
 pub mod Known
 pub mod Added
 pub mod Admitted
-pub mod Grabs
+pub mod Grabbing
 pub mod TellOthers
 pub mod Options
 pub mod Dispatch
