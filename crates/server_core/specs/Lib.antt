@@ -10,3 +10,8 @@ pub mod Shapes
 pub mod Sending
 pub mod HandingOut
 pub mod SlowOnes
+pub mod Others
+pub mod Using
+pub mod Accepting
+pub mod Joining
+pub mod Hearing

@@ -5,11 +5,17 @@
 //! no time but the moment that it is told.
 #![tactic(auto)]
 
+mod accepting;
 mod actions;
 mod clipboards;
 mod closing;
 mod ends;
 mod events;
+mod grabs;
+mod hearing;
+mod hello;
+mod information;
+mod joined;
 mod log_lines;
 mod partings;
 mod primary;
