@@ -1,5 +1,7 @@
 pub mod FirstOf
 pub mod Pairs
+pub mod PartsTaken
 pub mod Standing
 pub mod Readings
 pub mod Removing
+pub mod Advancing

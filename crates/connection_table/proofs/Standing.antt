@@ -35,6 +35,7 @@ stands-sent : (a : Surroundings) (o : Origin) (m : Msg) (k l : kept.Connection) 
 stands-sent a o m k l c h s = subst (λ x. StandsFor (told (entry_of o c.serial m c.taken) a) x c) (sym s.rest) (record {
   serial = h.serial;
   phase = h.phase;
+  known = h.known;
   role = h.role;
   heard = h.heard;
   reader = h.reader;
@@ -51,6 +52,7 @@ pub stands-other : (a : Surroundings) (e : Entry) (k : kept.Connection) (c : Con
 stands-other a e k c other h = record {
   serial = h.serial;
   phase = h.phase;
+  known = h.known;
   role = h.role;
   heard = h.heard;
   reader = h.reader;
@@ -76,6 +78,7 @@ stands-parted : (a : Surroundings) (cause : PartCause) (now : ℕ) (k l : kept.C
 stands-parted a cause now k l c on h p = subst (λ x. StandsFor a x (parted cause now c)) (sym p.rest) (record {
   serial = h.serial;
   phase = p.phase ∙ (ap (parted_phase cause now) h.phase ∙ parted-is cause now c.phase on);
+  known = tt;
   role = h.role;
   heard = λ e. absurd (let x : ⊥ = cc in x);
   reader = λ e. absurd (let x : ⊥ = cc in x);
@@ -91,6 +94,7 @@ stands-dropped : (a : Surroundings) (k l : kept.Connection) (c : Connection) →
 stands-dropped a k l c off h p = subst (λ x. StandsFor a x (drops c)) (sym p.rest) (record {
   serial = h.serial;
   phase = h.phase;
+  known = h.known;
   role = h.role;
   heard = h.heard;
   reader = h.reader;
@@ -106,6 +110,7 @@ stands-taken : (a : Surroundings) (count : ℕ) (k l : kept.Connection) (c : Con
 stands-taken a count k l c h p = subst (λ x. StandsFor a x (takes count c)) (sym p.rest) (record {
   serial = h.serial;
   phase = h.phase;
+  known = h.known;
   role = h.role;
   heard = h.heard;
   reader = h.reader;

@@ -23,3 +23,12 @@ pub mod Received
 pub mod Taken
 pub mod Closed
 pub mod Judged
+pub mod JoinedScreens
+pub mod Indexed
+pub mod Known
+pub mod Added
+pub mod Admitted
+pub mod Grabbing
+pub mod TellOthers
+pub mod Options
+pub mod Dispatch

@@ -12,3 +12,8 @@ pub mod HandingOut
 pub mod SlowOnes
 pub mod Around
 pub mod Passing
+pub mod Others
+pub mod Using
+pub mod Accepting
+pub mod Joining
+pub mod Hearing

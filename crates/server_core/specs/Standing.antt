@@ -1,5 +1,5 @@
 -- Which state of the machine a server is in.
-use Rattle.std.specs.Prelude.{◌≡◌, ℕ, List, [], ◌++◌, drop, map}
+use Rattle.std.specs.Prelude.{◌≡◌, ℕ, List, [], ◌++◌, drop, map, length}
 use Rattle.message_codec.specs.declared.messages.Msg.{Msg}
 use Rattle.clip_chunks.specs.Books as books
 use Rattle.machine.specs.Targets as machine
@@ -33,7 +33,7 @@ IsBlank serial b = (b.received serial ≡ []) × (b.given serial ≡ [])
 
 -- what tells the kept connections
 abbrev pub around : Beside → State → Surroundings
-around b s = record { routed = s.routed; received = b.received; given = b.given; limit = clip_limit s }
+around b s = record { routed = s.routed; received = b.received; given = b.given; limit = clip_limit s; count = length s.config.screens }
 
 -- the server is in that state, of which that holds
 pub record StandsWhere (P : State → Type 0) (b : Beside) (core : ServerCore) (s : State) : Type 0 where

@@ -5,6 +5,7 @@
 //! no time but the moment that it is told.
 #![tactic(auto)]
 
+mod accepting;
 mod actions;
 mod clipboards;
 mod clock;
@@ -13,11 +14,16 @@ mod closing;
 mod ends;
 mod events;
 mod gate;
+mod grabs;
+mod hearing;
+mod hello;
+mod information;
 mod joined;
 mod log_lines;
 mod motion;
 mod partings;
 mod primary;
+mod reading;
 mod routes;
 mod routing;
 mod running;
