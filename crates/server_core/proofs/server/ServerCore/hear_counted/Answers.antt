@@ -1,5 +1,4 @@
-use Rattle.std.specs.Prelude.{◌≡◌}
 use Rattle.server_core.proofs.server.ServerCore.hear_counted.Goals as goal
 
-pub returns : goal.returns
-returns c = ?
+pub returns-in-Some : goal.returns-in-Some
+returns-in-Some c = ?
