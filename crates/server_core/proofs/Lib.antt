@@ -15,3 +15,12 @@ pub mod Farewells
 pub mod SlowFound
 pub mod Loops
 pub mod SlowTurns
+pub mod Steady
+pub mod Indexed
+pub mod ScriptLines
+pub mod ScriptTurns
+pub mod Goodbyes
+pub mod ToldJoined
+pub mod Copies
+pub mod NextLine
+pub mod Sleeping

@@ -7,3 +7,6 @@ pub mod Shapes
 pub mod Sending
 pub mod HandingOut
 pub mod SlowOnes
+pub mod Telling
+pub mod NextLine
+pub mod Goodbyes

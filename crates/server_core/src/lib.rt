@@ -7,7 +7,9 @@
 
 mod actions;
 mod clipboards;
+mod copying;
 mod events;
+mod inputs;
 mod log_lines;
 mod partings;
 mod primary;
