@@ -15,3 +15,5 @@ pub mod Farewells
 pub mod SlowFound
 pub mod Loops
 pub mod SlowTurns
+pub mod Passed
+pub mod Joined
