@@ -24,3 +24,5 @@ pub mod ToldJoined
 pub mod Copies
 pub mod NextLine
 pub mod Sleeping
+pub mod Passed
+pub mod Joined

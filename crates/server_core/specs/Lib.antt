@@ -10,3 +10,5 @@ pub mod SlowOnes
 pub mod Telling
 pub mod NextLine
 pub mod Goodbyes
+pub mod Around
+pub mod Passing

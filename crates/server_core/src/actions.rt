@@ -1,6 +1,7 @@
 //! What the actions of hotkeys do.
 
 ghost use Rattle.std.specs.Prelude.{OnOk};
+ghost use Rattle.screen_links.specs.Walks.{IsPlace};
 ghost use Rattle.message_codec.specs.declared.messages.Msg.TheVariants as msg;
 ghost use Rattle.machine.specs.Targets.{Origin, Primary, same_target};
 ghost use Rattle.machine.specs.Combining.{for_some, unchanged};
@@ -16,7 +17,8 @@ use crate::target::Target;
 use hotkey_rules::{Action, LockMode};
 use message_codec::Msg;
 use screen_crossing::middle;
-use share_base::{Button, KeyId, Mask, MouseButton, OutOfMemory, ScreenNo};
+use screen_links::Landing;
+use share_base::{Button, KeyId, Mask, MouseButton, OutOfMemory, ScreenNo, Side};
 
 /// No screen is left at this sequence number, so that it never has to rise.
 const LAST_SEQUENCE: u32 = 4_294_967_295;
@@ -70,7 +72,10 @@ impl ServerCore {
                 self.switch_to_screen(screen)?;
                 Ok(())
             }
-            Action::SwitchToward(_) => Ok(()),
+            Action::SwitchToward(side) => {
+                self.switch_toward(side)?;
+                Ok(())
+            }
         }
     }
 
@@ -148,6 +153,36 @@ impl ServerCore {
         }
         let shape = self.shape_of(target);
         self.switch(target, middle(&shape))?;
+        Ok(())
+    }
+
+    // Enters the joined screen to which the edge on a side leads at the cursor, even where that edge
+    // is blocked, as a motion enters there.
+    fn switch_toward(&mut self, side: Side) -> Result<(), OutOfMemory>
+        ensures { OnOk result ((o : Origin) → Leads self.old self.new
+            (actions.switch_toward o side)) }
+    {
+        if !self.may_switch() {
+            return Ok(());
+        }
+        let Some(landing) = self.landing_at(side) else {
+            return Ok(());
+        };
+        self.enter_landing(side, landing)?;
+        Ok(())
+    }
+
+    // Enters a place of a joined screen, having left another one on that side.
+    fn enter_landing(&mut self, side: Side, landing: Landing) -> Result<(), OutOfMemory>
+        requires { IsPlace landing }
+        ensures { OnOk result ((o : Origin) → Leads self.old self.new
+            (actions.enter_landing o side landing)) }
+    {
+        let Some(target) = self.target_of(landing.screen) else {
+            return Ok(());
+        };
+        let point = self.entry_at(side, target, landing.t);
+        self.switch(target, point)?;
         Ok(())
     }
 

@@ -6,6 +6,7 @@ ghost use Rattle.wire_frames.specs.declared.limits.TheConstants.{BODY_LIMIT};
 ghost use Rattle.machine.specs.Targets.{Own};
 ghost use Rattle.machine.specs.Screens.{joined_clients};
 ghost use Rattle.machine.specs.Routing.{route_all};
+ghost use Rattle.machine.specs.Clipboards as clipboards;
 ghost use Rattle.machine.specs.Running as running;
 ghost use Rattle.server_core.specs.Leading.{Leads};
 ghost use Rattle.server_core.specs.Telling.{tell_at};
@@ -13,9 +14,28 @@ ghost use Rattle.server_core.specs.Telling.{tell_at};
 use crate::server::ServerCore;
 use crate::target::Target;
 use message_codec::Msg;
-use share_base::OutOfMemory;
+use share_base::{ClipId, OutOfMemory};
 
 impl ServerCore {
+    /// The script copies bytes to a clipboard. Where clipboards are shared and there aren't too many
+    /// bytes, they become the clipboard's, every joined connection is told so, and the active
+    /// screen is sent them.
+    pub(crate) fn copy(&mut self, clip: ClipId, bytes: &[u8]) -> Result<(), OutOfMemory>
+        ensures { OnOk result (Leads self.old self.new (clipboards.copy clip bytes.now)) }
+    {
+        if !self.config.globals().clipboard_sharing {
+            return Ok(());
+        }
+        let joined = self.joined_screens();
+        let counts = self.clips.copied(clip, bytes, self.sequence, &joined)?;
+        if !counts {
+            return Ok(());
+        }
+        self.tell_joined(&Msg::Grab { clip, seq: 0 })?;
+        self.refresh(clip)?;
+        Ok(())
+    }
+
     /// The screen saver begins or ends: where the savers of all screens do so together, each of
     /// them is told, the primary first.
     pub(crate) fn save(&mut self, on: bool) -> Result<(), OutOfMemory>

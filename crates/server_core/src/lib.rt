@@ -7,10 +7,15 @@
 
 mod actions;
 mod clipboards;
+mod clock;
 mod copying;
+mod cursor;
 mod events;
+mod gate;
 mod inputs;
+mod joined;
 mod log_lines;
+mod motion;
 mod partings;
 mod primary;
 mod routes;
@@ -22,7 +27,10 @@ mod slow;
 mod start;
 mod switching;
 mod target;
+mod ways;
 
+pub use clock::Clock;
+pub use cursor::Cursor;
 pub use primary::{PrimaryShape, ServedScript};
 pub use server::ServerCore;
 pub use target::Target;

@@ -18,7 +18,7 @@ ghost use Rattle.server_core.specs.Leading.{Leads, Reads};
 use crate::server::ServerCore;
 use hello_states::PartCause;
 use script_screen::ScriptLine;
-use share_base::{OutOfMemory, ScreenNo};
+use share_base::{Octets, OutOfMemory, ScreenNo};
 
 impl ServerCore {
     /// Runs lines of the script while they may run.
@@ -62,7 +62,7 @@ impl ServerCore {
     {
         match self.sleeps_until {
             None => true,
-            Some(end) => end <= self.at,
+            Some(end) => end <= self.at.moment(),
         }
     }
 
@@ -152,7 +152,11 @@ impl ServerCore {
                 self.button_up(b)?;
                 Ok(())
             }
-            ScriptLine::Motion { dx: _, dy: _ } => Ok(()),
+            ScriptLine::Motion { dx, dy } => {
+                let (dx, dy) = (*dx, *dy);
+                self.motion(dx, dy)?;
+                Ok(())
+            }
             ScriptLine::Wheel { x, y } => {
                 let (x, y) = (*x, *y);
                 self.wheel(x, y)?;
@@ -163,7 +167,13 @@ impl ServerCore {
                 self.save(on)?;
                 Ok(())
             }
-            ScriptLine::Copy { clip: _, bytes: _ } => Ok(()),
+            ScriptLine::Copy { clip, bytes } => {
+                let clip = *clip;
+                let mut copy = Octets::new(self.config.alloc());
+                copy.extend(bytes.as_slice())?;
+                self.copy(clip, copy.as_slice())?;
+                Ok(())
+            }
             ScriptLine::Quit => {
                 self.quit()?;
                 Ok(())
@@ -175,7 +185,7 @@ impl ServerCore {
     fn sleep(&mut self, ms: u32)
         ensures { (number : ℕ) → Leads self.old self.new (running.does number (line.Sleep ms)) }
     {
-        self.sleeps_until = Some(self.at.saturating_add(ms as u64));
+        self.sleeps_until = Some(self.at.moment() + ms as u64);
     }
 
     // No line runs any more, and the connections that live are told goodbye and part, one after
