@@ -22,6 +22,8 @@ mod routes;
 mod routing;
 mod running;
 mod screens;
+#[cfg(test)]
+mod script_tests;
 mod server;
 mod slow;
 mod start;
