@@ -25,4 +25,6 @@ pub mod Copies
 pub mod NextLine
 pub mod Sleeping
 pub mod Passed
-pub mod Joined
+pub mod JoinedScreens
+pub mod ActedAll
+pub mod Same

