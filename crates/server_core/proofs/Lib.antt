@@ -32,3 +32,16 @@ pub mod Grabbing
 pub mod TellOthers
 pub mod Options
 pub mod Dispatch
+pub mod Steady
+pub mod Indexed
+pub mod ScriptLines
+pub mod ScriptTurns
+pub mod Goodbyes
+pub mod ToldJoined
+pub mod Copies
+pub mod NextLine
+pub mod Sleeping
+pub mod Passed
+pub mod JoinedScreens
+pub mod ActedAll
+pub mod Same

@@ -17,3 +17,8 @@ pub mod Using
 pub mod Accepting
 pub mod Joining
 pub mod Hearing
+pub mod Telling
+pub mod NextLine
+pub mod Goodbyes
+pub mod Around
+pub mod Passing
