@@ -10,6 +10,8 @@
 mod client;
 mod client_end;
 mod clipboards;
+#[cfg(test)]
+mod clip_tests;
 mod hearer;
 mod hearing;
 mod laws;
