@@ -13,6 +13,8 @@ EXAMPLE_ENDS = {("keys", "inject"): (9, "lost ended")}
 INPUT_LIMIT = 1 << 30
 CONFIG_LIMIT = 1 << 20
 BODY_LIMIT = 4 << 20
+CLIP_LIMIT = 4 << 20
+CHUNK = 32_768
 FULL = "/dev/full"
 # The name of the file that holds a case's text.
 CONFIG = "desks.conf"
@@ -55,8 +57,9 @@ BYE = frame("CBYE")
 KEY = frame("DKDN", "0061 0000 0026")
 KEY_UP = frame("DKUP", "0061 0000 0026")
 BUTTON = frame("DMDN", "03")
-CLIPBOARD = frame("DCLP", "00 00000000 01 00000001 35")
 TOO_LONG = bytes.fromhex("00400001")
+# As long a clipboard as there may be.
+LONGEST = bytes(range(256)) * (CLIP_LIMIT // 256)
 # As long a frame as there may be, of a message that prints nothing.
 FILE_PART = frame("DFTR", f"01 {BODY_LIMIT - 9:08x}" + bytes(BODY_LIMIT - 9).hex())
 
@@ -70,6 +73,22 @@ NOTHING = b"section: screens\nend\nsection: aliases\nend\nsection: links\nend\ns
 BEATS = NOTHING[:-4] + b"\theartbeat = 5000\nend\n"
 DESK = b"section: screens\n\tdesk:\nend\n"
 DESK_LINKS = DESK + b"section: links\n\tdesk:\n"
+
+
+def clip_part(clip, mark, data=b""):
+    """A part of a clipboard: its start, a chunk, or its end."""
+    return frame("DCLP", f"{clip:02x} 00000000 {mark:02x} {len(data):08x} {data.hex()}")
+
+
+def clipboard(clip, data):
+    """The parts of a whole clipboard."""
+    chunks = [clip_part(clip, 2, data[at : at + CHUNK]) for at in range(0, len(data), CHUNK)]
+    return [clip_part(clip, 1, str(len(data)).encode()), *chunks, clip_part(clip, 3)]
+
+
+def woven(first, second):
+    """The parts of both clipboards in turn."""
+    return [part for pair in zip(clipboard(0, first), clipboard(1, second)) for part in pair]
 
 
 def usage(name, *words):
@@ -152,7 +171,12 @@ CASES = [
     injects("left with keys down", [ENTER, KEY, BUTTON, LEAVE, BYE], 0, "", HELD + RELEASED + b"leave\n"),
     injects("lost with keys down", [ENTER, KEY, BUTTON], 9, "lost ended", HELD + RELEASED),
     injects("one byte a write", [ENTER, KEY, BUTTON], 9, "lost ended", HELD + RELEASED, slowly=True),
-    injects("a clipboard's part", [ENTER, CLIPBOARD], 10, "not yet 18", ENTERED),
+    injects("a clipboard's start alone", [ENTER, clip_part(0, 1, b"5")], 9, "lost ended", ENTERED),
+    injects("a clipboard", [ENTER, *clipboard(0, b"Hello"), BYE], 0, "", ENTERED + b"clip 0 48656c6c6f\n"),
+    injects("an empty selection", [*clipboard(1, b""), BYE], 0, "", b"clip 1 -\n"),
+    injects("two clipboards at once", [*woven(b"one", b"two"), BYE], 0, "", b"clip 0 6f6e65\nclip 1 74776f\n"),
+    injects("as long a clipboard as there may be", [*clipboard(0, LONGEST), BYE], 0, "", b"clip 0 " + LONGEST.hex().encode() + b"\n"),
+    injects("a clipboard that is too long", [*clipboard(0, LONGEST + b"!"), BYE], 0, "", b""),
     injects("a bad frame with keys down", [ENTER, KEY, TOO_LONG], 1, "frames 32 toolong", ENTERED + PRESSED + LIFTED),
     *map(cut_after, (0, 1, 4, 13, 14)),
     refused_by("EBSY"),

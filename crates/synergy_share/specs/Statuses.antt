@@ -39,7 +39,6 @@ row (status.Lost lost.Ended) = status_row 9 (codes "lost ended\n")
 row (status.Lost lost.Failed) = status_row 9 (codes "lost failed\n")
 row (status.Lost lost.Dead) = status_row 9 (codes "lost dead\n")
 row (status.Lost lost.Slow) = status_row 9 (codes "lost slow\n")
-row (status.NotYet place) = status_row 10 (codes "not yet " ++ decimal place ++ 10 ∷ [])
 
 abbrev pub exit_code : Status → ℕ
 exit_code end = (row end).code

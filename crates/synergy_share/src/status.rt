@@ -29,11 +29,6 @@ pub enum Status {
         /// What is wrong with it.
         reason: Reason,
     },
-    /// A message that is not injected yet stands at that place.
-    NotYet {
-        /// Where its frame begins.
-        place: u64,
-    },
     /// More bytes were read than a command takes.
     InputTooLong,
     /// The words name no command.
@@ -73,7 +68,7 @@ fn put_refusal(text: &mut Lines, line: u32, column: u32, kind: ConfigKind)
 impl Status {
     ghost use Rattle.synergy_share.specs.Statuses.{exit_code, status_line};
 
-    /// The exit code, 0 to 10.
+    /// The exit code, 0 to 9.
     pub fn code(&self) -> u8
         ensures { result ≡ exit_code self.now }
     {
@@ -88,7 +83,6 @@ impl Status {
             Status::TurnsSpent => 7,
             Status::Refused(_) => 8,
             Status::Lost(_) => 9,
-            Status::NotYet { place: _ } => 10,
         }
     }
 
@@ -121,11 +115,6 @@ impl Status {
                 put_u64(&mut text, place);
                 text.extend(b" ");
                 text.extend(reason.text());
-                text.extend(b"\n");
-            }
-            Status::NotYet { place } => {
-                text.extend(b"not yet ");
-                put_u64(&mut text, place);
                 text.extend(b"\n");
             }
         }
