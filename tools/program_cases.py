@@ -6,6 +6,8 @@ The expected values follow docs/protocol.md and docs/configuration.md; none is c
 import pathlib
 from typing import NamedTuple
 
+import replay_rows
+
 EXAMPLES = pathlib.Path(__file__).resolve().parent.parent / "examples"
 # How the command of an example ends, unless with 0 and no line.
 EXAMPLE_ENDS = {("keys", "inject"): (9, "lost ended")}
@@ -13,6 +15,8 @@ EXAMPLE_ENDS = {("keys", "inject"): (9, "lost ended")}
 INPUT_LIMIT = 1 << 30
 CONFIG_LIMIT = 1 << 20
 BODY_LIMIT = 4 << 20
+CLIP_LIMIT = 4 << 20
+CHUNK = 32_768
 FULL = "/dev/full"
 # The name of the file that holds a case's text.
 CONFIG = "desks.conf"
@@ -33,6 +37,8 @@ class Case(NamedTuple):
     # A file that lies in the folder of the run, and its name.
     text: bytes = b""
     file: str = CONFIG
+    # Further files that lie there: their names and bytes.
+    files: tuple = ()
     # How each stream is given: a pipe, "closed", a path to open, or for the output "broken", a pipe without a reader.
     stdin: str = "pipe"
     stdout: str = "pipe"
@@ -55,8 +61,9 @@ BYE = frame("CBYE")
 KEY = frame("DKDN", "0061 0000 0026")
 KEY_UP = frame("DKUP", "0061 0000 0026")
 BUTTON = frame("DMDN", "03")
-CLIPBOARD = frame("DCLP", "00 00000000 01 00000001 35")
 TOO_LONG = bytes.fromhex("00400001")
+# As long a clipboard as there may be.
+LONGEST = bytes(range(256)) * (CLIP_LIMIT // 256)
 # As long a frame as there may be, of a message that prints nothing.
 FILE_PART = frame("DFTR", f"01 {BODY_LIMIT - 9:08x}" + bytes(BODY_LIMIT - 9).hex())
 
@@ -70,6 +77,22 @@ NOTHING = b"section: screens\nend\nsection: aliases\nend\nsection: links\nend\ns
 BEATS = NOTHING[:-4] + b"\theartbeat = 5000\nend\n"
 DESK = b"section: screens\n\tdesk:\nend\n"
 DESK_LINKS = DESK + b"section: links\n\tdesk:\n"
+
+
+def clip_part(clip, mark, data=b""):
+    """A part of a clipboard: its start, a chunk, or its end."""
+    return frame("DCLP", f"{clip:02x} 00000000 {mark:02x} {len(data):08x} {data.hex()}")
+
+
+def clipboard(clip, data):
+    """The parts of a whole clipboard."""
+    chunks = [clip_part(clip, 2, data[at : at + CHUNK]) for at in range(0, len(data), CHUNK)]
+    return [clip_part(clip, 1, str(len(data)).encode()), *chunks, clip_part(clip, 3)]
+
+
+def woven(first, second):
+    """The parts of both clipboards in turn."""
+    return [part for pair in zip(clipboard(0, first), clipboard(1, second)) for part in pair]
 
 
 def usage(name, *words):
@@ -120,15 +143,36 @@ def text_of_size(size):
     return comment * count + b"\n" * rest + tail
 
 
+# What the words of an example's command are, and the endings of the files that it reads by name.
+EXAMPLE_WORDS = {
+    "inject": lambda name: ["inject"],
+    "show": lambda name: ["show", "server"],
+    "check": lambda name: ["check", f"{name}.conf"],
+    "replay": lambda name: ["replay", f"{name}.conf", f"{name}.script", f"{name}.trace"],
+}
+TEXTS = (".conf", ".script", ".trace")
+
+
+def example(name):
+    return (EXAMPLES / name).read_bytes()
+
+
 def examples():
     """Each output that lies beside a file of examples/, as NAME.COMMAND.out."""
     for output in sorted(EXAMPLES.glob("*.*.out")):
         name, command, _ = output.name.split(".")
         end = EXAMPLE_ENDS.get((name, command), (0, ""))
-        words = {"inject": ["inject"], "show": ["show", "server"], "check": ["check", CONFIG]}[command]
-        given = (EXAMPLES / name).with_suffix(".conf" if command == "check" else ".bin").read_bytes()
-        place = {"text" if command == "check" else "input": given}
-        yield Case(f"example {output.name}", words, *end, output.read_bytes(), **place)
+        place = {"input": lambda: [example(f"{name}.bin")]} if command in ("inject", "show") else {}
+        files = [(file.name, file.read_bytes()) for file in EXAMPLES.glob(f"{name}.*") if file.suffix in TEXTS]
+        yield Case(f"example {output.name}", EXAMPLE_WORDS[command](name), *end, output.read_bytes(), files=files, **place)
+
+
+def replays():
+    """Each row of replay_rows.py."""
+    for row in replay_rows.ROWS:
+        files = [("conf", row.config), ("script", row.script), ("trace", row.trace)]
+        words = ["replay", *(name for name, _ in files)]
+        yield Case(f"replay: {row.name}", words, row.code, row.line, row.log, files=files)
 
 
 CASES = [
@@ -143,6 +187,7 @@ CASES = [
     usage("an end too many", "show", "server", "client"),
     usage("no file", "check"),
     usage("a file too many", "check", CONFIG, CONFIG),
+    usage("a trace too few", "replay", CONFIG, CONFIG),
     usage("not UTF-8", b"\xff"),
     usage("a file's name that is not UTF-8", "check", CONFIG.encode() + b"\xff"),
     # How a stream ends.
@@ -152,7 +197,12 @@ CASES = [
     injects("left with keys down", [ENTER, KEY, BUTTON, LEAVE, BYE], 0, "", HELD + RELEASED + b"leave\n"),
     injects("lost with keys down", [ENTER, KEY, BUTTON], 9, "lost ended", HELD + RELEASED),
     injects("one byte a write", [ENTER, KEY, BUTTON], 9, "lost ended", HELD + RELEASED, slowly=True),
-    injects("a clipboard's part", [ENTER, CLIPBOARD], 10, "not yet 18", ENTERED),
+    injects("a clipboard's start alone", [ENTER, clip_part(0, 1, b"5")], 9, "lost ended", ENTERED),
+    injects("a clipboard", [ENTER, *clipboard(0, b"Hello"), BYE], 0, "", ENTERED + b"clip 0 48656c6c6f\n"),
+    injects("an empty selection", [*clipboard(1, b""), BYE], 0, "", b"clip 1 -\n"),
+    injects("two clipboards at once", [*woven(b"one", b"two"), BYE], 0, "", b"clip 0 6f6e65\nclip 1 74776f\n"),
+    injects("as long a clipboard as there may be", [*clipboard(0, LONGEST), BYE], 0, "", b"clip 0 " + LONGEST.hex().encode() + b"\n"),
+    injects("a clipboard that is too long", [*clipboard(0, LONGEST + b"!"), BYE], 0, "", b""),
     injects("a bad frame with keys down", [ENTER, KEY, TOO_LONG], 1, "frames 32 toolong", ENTERED + PRESSED + LIFTED),
     *map(cut_after, (0, 1, 4, 13, 14)),
     refused_by("EBSY"),
@@ -213,5 +263,6 @@ CASES = [
     bad_config("2 12 UnknownKey", b"section: options\n\tkeystroke(Nope) = lockCursorToScreen(on)\n"),
     bad_config("2 18 UnknownAction", b"section: options\n\tkeystroke(F1) = dance(on)\n"),
     bad_config("66 2 TooMany", b"section: screens\n" + b"".join(b"\ts%d:\n" % number for number in range(65))),
+    *replays(),
     *examples(),
 ]

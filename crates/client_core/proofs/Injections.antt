@@ -28,7 +28,7 @@ use Rattle.client_core.specs.declared.client_end.ClientEnd.TheVariants as end
 use Rattle.client_core.specs.declared.client.ClientCore.{ClientCore}
 use Rattle.client_core.specs.declared.stop.Stop.{Stop}
 use Rattle.client_core.specs.declared.stop.Stop.TheVariants as stop
-use Rattle.client_core.specs.Ends.{stop_of, end_at, end_by, heard_of, end_of, IsHeard}
+use Rattle.client_core.specs.Ends.{stop_of, end_for, end_by, heard_of, end_of, IsHeard}
 use Rattle.client_core.specs.Clients.{Client, while_going, hear, hear_all, fed, inbox_with, bad_in, fails, got}
 use Rattle.client_core.specs.Happenings.{injecting}
 use Rattle.client_core.specs.Kept.{Kept, Stands, Breaks, Gets, ClearsLines, lines_in, out_of_memory}
@@ -37,12 +37,12 @@ use Rattle.client_core.proofs.Clients.{hear_is, over, left_of}
 
 -- ---- messages
 
--- how a list of messages ends it, after those that it heard
-abbrev ended_by : List Msg → List Msg → Option ClientEnd
-ended_by heard ms = option_map (end_at (length (frames_of (heard ++ before_end stop_of ms)))) (ending stop_of ms)
+-- how a list of messages ends it
+abbrev ended_by : List Msg → Option ClientEnd
+ended_by ms = option_map end_for (ending stop_of ms)
 
 -- it hears the messages before the first that ends it
-heard_so : (role : Role) (stream : List ℕ) (heard ms : List Msg) → hear_all (injected role None stream heard) ms ≡ injected role (ended_by heard ms) stream (heard ++ before_end stop_of ms)
+heard_so : (role : Role) (stream : List ℕ) (heard ms : List Msg) → hear_all (injected role None stream heard) ms ≡ injected role (ended_by ms) stream (heard ++ before_end stop_of ms)
 heard_so role stream heard [] = ap (λ (hs : List Msg). injected role None stream hs) (sym (append-nil heard))
 heard_so role stream heard (m ∷ ms) = by (stop_of m) refl (heard_so role stream (heard ++ m ∷ []) ms)
   where
@@ -50,17 +50,17 @@ heard_so role stream heard (m ∷ ms) = by (stop_of m) refl (heard_so role strea
     c = injected role None stream heard
 
     Goal : Option Stop → Type 0
-    Goal o = hear_all (injected role None stream heard) (m ∷ ms) ≡ injected role (option_map (end_at (length (frames_of (heard ++ (if is_some o then [] else m ∷ before_end stop_of ms))))) (option_or o (ending stop_of ms))) stream (heard ++ (if is_some o then [] else m ∷ before_end stop_of ms))
+    Goal o = hear_all (injected role None stream heard) (m ∷ ms) ≡ injected role (option_map end_for (option_or o (ending stop_of ms))) stream (heard ++ (if is_some o then [] else m ∷ before_end stop_of ms))
 
-    by : (o : Option Stop) → stop_of m ≡ o → hear_all (injected role None stream (heard ++ m ∷ [])) ms ≡ injected role (ended_by (heard ++ m ∷ []) ms) stream ((heard ++ m ∷ []) ++ before_end stop_of ms) → hear_all c (m ∷ ms) ≡ injected role (ended_by heard (m ∷ ms)) stream (heard ++ before_end stop_of (m ∷ ms))
+    by : (o : Option Stop) → stop_of m ≡ o → hear_all (injected role None stream (heard ++ m ∷ [])) ms ≡ injected role (ended_by ms) stream ((heard ++ m ∷ []) ++ before_end stop_of ms) → hear_all c (m ∷ ms) ≡ injected role (ended_by (m ∷ ms)) stream (heard ++ before_end stop_of (m ∷ ms))
     by (Some s) is rest = subst Goal (sym is) (
         ap (λ (x : Client). hear_all x ms) (hear_is c m (Some s) refl is)
-        ∙ over (record c { done = Some (end_at (length (frames_of heard)) s) }) (end_at (length (frames_of heard)) s) ms refl
-        ∙ ap (λ (hs : List Msg). injected role (Some (end_at (length (frames_of hs)) s)) stream hs) (sym (append-nil heard)))
+        ∙ over (record c { done = Some (end_for s) }) (end_for s) ms refl
+        ∙ ap (λ (hs : List Msg). injected role (Some (end_for s)) stream hs) (sym (append-nil heard)))
     by None is rest = subst Goal (sym is) (
         ap (λ (x : Client). hear_all x ms) (hear_is c m None refl is)
         ∙ rest
-        ∙ ap (λ (hs : List Msg). injected role (option_map (end_at (length (frames_of hs))) (ending stop_of ms)) stream hs) (append_assoc heard (m ∷ []) (before_end stop_of ms)))
+        ∙ ap (λ (hs : List Msg). injected role (ended_by ms) stream hs) (append_assoc heard (m ∷ []) (before_end stop_of ms)))
 
 -- ---- a piece
 
@@ -75,7 +75,7 @@ end_from_is v heard left all none =
     ∙ ap (λ (o : Option Stop). option_map end_by (option_or (option_map (Stopped (length (frames_of (heard ++ before_end stop_of left)))) o) (option_map Failed (bad_frame v)))) (ending-append stop_of heard left none)
 
 -- what judging by the bad frame leaves
-judged_so : (role : Role) (stream : List ℕ) (place : ℕ) (ms : List Msg) (o : Option Stop) (bad : Option BadFrame) → (λ (d : Client). while_going d.done (fails bad) d) (injected role (option_map (end_at place) o) stream ms) ≡ injected role (option_map end_by (option_or (option_map (Stopped place) o) (option_map Failed bad))) stream ms
+judged_so : (role : Role) (stream : List ℕ) (place : ℕ) (ms : List Msg) (o : Option Stop) (bad : Option BadFrame) → (λ (d : Client). while_going d.done (fails bad) d) (injected role (option_map end_for o) stream ms) ≡ injected role (option_map end_by (option_or (option_map (Stopped place) o) (option_map Failed bad))) stream ms
 judged_so role stream place ms (Some s) bad = refl
 judged_so role stream place ms None None = refl
 judged_so role stream place ms None (Some bad) = refl
@@ -100,7 +100,6 @@ by_outcome : {reader : Reader} {stream : List ℕ} (v : Verdict reader stream) (
 by_outcome v None messages is all = (ap (option_map end_by) (sym is), all)
 by_outcome v (Some (Stopped place stop.Bye)) messages is all = (ap (option_map end_by) (sym is), all)
 by_outcome v (Some (Stopped place (stop.Refused why))) messages is all = (ap (option_map end_by) (sym is), all)
-by_outcome v (Some (Stopped place stop.NotYet)) messages is all = (ap (option_map end_by) (sym is), all)
 by_outcome v (Some (Failed bad)) messages is all = (ap (option_map end_by) (sym is), all)
 
 no_end : (o : Option (Outcome Stop)) → None ≡ option_map end_by o → o ≡ None
@@ -130,9 +129,9 @@ clears core new same done cleared stream messages front k =
     (subst (λ (d : Option ClientEnd). IsHeard d k.verdict messages) (sym done) k.heard)
     (subst (λ (d : Option ClientEnd). Stands new (injected core.reader.role d stream messages) (front ++ lines_in core)) (sym done) (cleared (injected core.reader.role core.done stream messages) front k.stands))
 
-none_ends : (o : Option Stop) (place : ℕ) → option_map (end_at place) o ≡ None → o ≡ None
-none_ends None place none = refl
-none_ends (Some s) place none = absurd cc
+none_ends : (o : Option Stop) → option_map end_for o ≡ None → o ≡ None
+none_ends None none = refl
+none_ends (Some s) none = absurd cc
 
 -- what a core that goes on knows of its stream with a piece after it
 record Ahead (core : ClientCore) (stream piece : List ℕ) (messages : List Msg) (front : List ℕ) : Type 0 where
@@ -189,7 +188,7 @@ grows {A = A} core new result piece small none role gets = record { role = role;
         let (rest, first) = b.first in
         let left_is : a.left ≡ ms ++ rest = sym (left_of (inbox_with piece c) messages a.left (a.box.messages_are ∙ a.all)) ∙ first in
         let so = heard_so core.reader.role (stream ++ piece) messages ms in
-        let goes : ending stop_of ms ≡ None = none_ends (ending stop_of ms) (length (frames_of (messages ++ before_end stop_of ms))) (ap (λ (x : Client). x.done) (sym so) ∙ b.goes) in
+        let goes : ending stop_of ms ≡ None = none_ends (ending stop_of ms) (ap (λ (x : Client). x.done) (sym so) ∙ b.goes) in
         let same : out_of_memory (hear_all (fed piece c) ms) ≡ injected core.reader.role (Some end.OutOfMemory) (stream ++ piece) (messages ++ ms) =
         ap out_of_memory so ∙ ap (λ (hs : List Msg). injected core.reader.role (Some end.OutOfMemory) (stream ++ piece) (messages ++ hs)) (before_end-all stop_of ms goes) in
         let kept = subst (λ (x : Client). Kept new.reader new.hearer new.done x front) same b.kept in

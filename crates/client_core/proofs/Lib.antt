@@ -1,8 +1,11 @@
 pub mod Pairs
 pub mod Screens
+pub mod Parts
+pub mod PartBytes
 pub mod Clients
 pub mod Hearers
 pub mod Streams
 pub mod Moments
 pub mod Injections
 pub mod ScreenRanges
+pub mod ToldWholes

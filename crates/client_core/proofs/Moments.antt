@@ -10,7 +10,7 @@ use Rattle.client_core.specs.declared.client_end.ClientEnd.TheVariants as end
 use Rattle.client_core.specs.declared.client.ClientCore.{ClientCore}
 use Rattle.client_core.specs.declared.hearer.Hearer.{Hearer}
 use Rattle.client_core.specs.declared.printer.Printer.{Printer}
-use Rattle.client_core.specs.Hearing.{client}
+use Rattle.client_core.specs.Hearing.{display}
 use Rattle.client_core.specs.Showing.{Shows}
 use Rattle.client_core.specs.Clients.{Client, while_going}
 use Rattle.client_core.specs.Happenings.{tells, passes, took}
@@ -22,8 +22,8 @@ use Rattle.client_core.specs.Kept.{Hears, Kept, Stands, Follows, Passes, StopsAt
 going_on : (moment : ℕ) (c : Client) (talk : Option Talk) → c.done ≡ None → c.talk ≡ talk → passes moment c ≡ tells talk moment c
 going_on moment c talk none is = ap (λ (d : Option ClientEnd). while_going d (tells c.talk moment) c) none ∙ ap (λ (t : Option Talk). tells t moment c) is
 
-same_printer : (p p' : Printer) (c : Client) (front : List ℕ) → p' ≡ p → Shows p (client c.shown) front → Shows p' (client c.shown) front
-same_printer p p' c front same shows = subst (λ (x : Printer). Shows x (client c.shown) front) (sym same) shows
+same_printer : (p p' : Printer) (c : Client) (front : List ℕ) → p' ≡ p → Shows p (display c.shown) front → Shows p' (display c.shown) front
+same_printer p p' c front same shows = subst (λ (x : Printer). Shows x (display c.shown) front) (sym same) shows
 
 told_so : (r : ReaderParts) (h h' : Hearer) (done : Option ClientEnd) (talk : Option Talk) (moment : ℕ) (c : Client) (front : List ℕ) → c.talk ≡ talk → Passes moment talk h'.talk (Ok done) → h'.printer ≡ h.printer → Kept r h None c front → Kept r h' done (tells talk moment c) front
 told_so r h h' finish None moment c front is p same k = record {

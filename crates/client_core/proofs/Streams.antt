@@ -6,7 +6,7 @@ use Rattle.share_base.specs.declared.out_of_memory.OutOfMemory.{OutOfMemory}
 use Rattle.share_base.specs.declared.reason.Reason.{Reason}
 use Rattle.std.proofs.lemmas.List.{length-append, append-nil}
 use Rattle.message_codec.specs.declared.messages.Msg.{Msg}
-use Rattle.message_codec.specs.Streams.{AreBytes, frames_of}
+use Rattle.message_codec.specs.Streams.{AreBytes}
 use Rattle.message_codec.specs.Verdicts.{Verdict}
 use Rattle.message_codec.specs.Inboxes.{Inbox, inbox, HasVerdict}
 use Rattle.message_codec.proofs.InboxVerdicts.{inbox-verdict}
@@ -24,7 +24,7 @@ use Rattle.client_core.specs.declared.client.ClientCore.{ClientCore}
 use Rattle.client_core.specs.declared.hearer.Hearer.{Hearer}
 use Rattle.client_core.specs.declared.printer.Printer.{Printer}
 use Rattle.client_talk.specs.Talks.{Talk}
-use Rattle.client_core.specs.Hearing.{client, fresh}
+use Rattle.client_core.specs.Hearing.{display, fresh}
 use Rattle.client_core.specs.Showing.{Shows, Clears}
 use Rattle.client_core.specs.Clients.{Client, hear, hear_all, fed, inbox_with, bad_in, fails, got}
 use Rattle.client_core.specs.Kept.{Reads, Hears, Kept, Heeds, out_of_memory, Breaks, Takes, Gets}
@@ -73,16 +73,12 @@ hearing_fed r r' h piece e c front k =
       };
     }
 
--- where a message stands
-place_of : (r next : ReaderParts) (h : Hearer) (c d : Client) (piece front : List ℕ) (more : List Msg) (place : ℕ) (m : Msg) → GivesMessage r next place m → Going r h c piece more d front → place ≡ length (frames_of d.heard)
-place_of r next h c d piece front more place m gives g = gives.place_is (c.received ++ piece) (c.heard ++ more) g.represents ∙ ap (λ (ms : List Msg). length (frames_of ms)) (sym g.heard)
-
-pub hearing_one : (r r' next : ReaderParts) (h h' after : Hearer) (piece : List ℕ) (place : ℕ) (m : Msg) → Hearing r r' h h' piece → GivesMessage r' next place m → Heeds place m h' after (Ok None) → Hearing r next h after piece
+pub hearing_one : (r r' next : ReaderParts) (h h' after : Hearer) (piece : List ℕ) (place : ℕ) (m : Msg) → Hearing r r' h h' piece → GivesMessage r' next place m → Heeds m h' after (Ok None) → Hearing r next h after piece
 hearing_one r r' next h h' after piece place m w gives heeds c front k =
     let s = w c front k in
     let g = s.going in
     let d = s.after in
-    let (hears, goes) = heeds d front g.goes (place_of r' next h' c d piece front s.more place m gives g) g.hears in record {
+    let (hears, goes) = heeds d front g.goes g.hears in record {
       more = s.more ++ m ∷ [];
       after = hear d m;
       going = record {
@@ -157,12 +153,12 @@ takes_broken_at r r' next h h' after answer piece place m err gives on w = takes
     broken next after c s.after piece front s.more tail g.is (gives.role ∙ g.role ∙ sym g.same_role) g.goes (on s.after front g.hears) (given_total next (c.received ++ piece) s.after.received ((c.heard ++ s.more) ++ m ∷ []) g.received given) (all ∙ append_assoc c.heard s.more tail))
 
 -- a message ended the client
-pub takes_stop : (r r' next : ReaderParts) (h h' after : Hearer) (e : ClientEnd) (piece : List ℕ) (place : ℕ) (m : Msg) → GivesMessage r' next place m → Heeds place m h' after (Ok (Some e)) → Hearing r r' h h' piece → Takes r next h after (Ok (Some e)) piece
+pub takes_stop : (r r' next : ReaderParts) (h h' after : Hearer) (e : ClientEnd) (piece : List ℕ) (place : ℕ) (m : Msg) → GivesMessage r' next place m → Heeds m h' after (Ok (Some e)) → Hearing r r' h h' piece → Takes r next h after (Ok (Some e)) piece
 takes_stop r r' next h h' after e piece place m gives heeds w c front k =
     let s = w c front k in
     let g = s.going in
     let d = s.after in
-    let (hears, ends) = heeds d front g.goes (place_of r' next h' c d piece front s.more place m gives g) g.hears in
+    let (hears, ends) = heeds d front g.goes g.hears in
     let given = gives.represents (c.received ++ piece) (c.heard ++ s.more) g.represents in
     let (tail, all) = came next c piece ((c.heard ++ s.more) ++ m ∷ []) (gives.role ∙ g.role) given in
     let order : ((c.heard ++ s.more) ++ m ∷ []) ++ tail ≡ c.heard ++ (s.more ++ m ∷ tail) = append_assoc (c.heard ++ s.more) (m ∷ []) tail ∙ append_assoc c.heard s.more (m ∷ tail) in
@@ -276,7 +272,7 @@ first_client r h role talk represents fine same shows talk-is = record {
 pub cleared : (r : ReaderParts) (h h' : Hearer) (done : Option ClientEnd) (c : Client) (front : List ℕ) → Clears h.printer h'.printer → h'.talk ≡ h.talk → Kept r h done c front → Kept r h' done c (front ++ h.printer.lines.items)
 cleared r h h' finish c front clears talk k = record {
   role = k.role;
-  hears = record { shows = clears (client c.shown) front k.hears.shows; talk = talk ∙ k.hears.talk };
+  hears = record { shows = clears (display c.shown) front k.hears.shows; talk = talk ∙ k.hears.talk };
   done_is = k.done_is;
   reads = k.reads;
   total = k.total;

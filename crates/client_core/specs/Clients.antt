@@ -3,7 +3,6 @@ use Rattle.std.specs.Prelude.{ℕ, List, [], ◌∷◌, ◌++◌, length, drop, 
 use Rattle.std.specs.Option.{option_map}
 use Rattle.share_base.specs.declared.reason.Reason.{Reason}
 use Rattle.message_codec.specs.declared.messages.Msg.{Msg}
-use Rattle.message_codec.specs.Streams.{frames_of}
 use Rattle.message_codec.specs.Inboxes.{Inbox, inbox}
 use Rattle.message_reader.specs.declared.reader.BadFrame.{BadFrame}
 use Rattle.message_reader.specs.declared.role.Role.{Role}
@@ -14,7 +13,7 @@ use Rattle.client_core.specs.declared.client_end.ClientEnd.{ClientEnd}
 use Rattle.client_core.specs.declared.client_end.ClientEnd.TheVariants as end
 use Rattle.client_core.specs.declared.client_end.LostCause.TheVariants as lost
 use Rattle.client_core.specs.declared.stop.Stop.{Stop}
-use Rattle.client_core.specs.Ends.{stop_in, end_at}
+use Rattle.client_core.specs.Ends.{stop_in, end_for}
 
 pub record Client : Type 0 where
   pub role : Role
@@ -51,7 +50,7 @@ listens m c = record c {
 
 -- a message ends it, or is heard
 abbrev pub takes : Option Stop → Msg → Client → Client
-takes (Some by) m c = record c { done = Some (end_at (length (frames_of c.heard)) by) }
+takes (Some by) m c = record c { done = Some (end_for by) }
 takes None m c = listens m c
 
 abbrev pub hear : Client → Msg → Client

@@ -14,14 +14,13 @@ use Rattle.client_core.specs.declared.client_end.Which.TheVariants as which
 use Rattle.client_core.specs.declared.stop.Stop.{Stop}
 use Rattle.client_core.specs.declared.stop.Stop.TheVariants as stop
 
--- a farewell, a refusal, or what has no line yet
+-- a farewell, or a refusal
 abbrev pub stop_of : Msg → Option Stop
 stop_of msg.Bye = Some stop.Bye
 stop_of (msg.BadVersion major minor) = Some (stop.Refused which.Eicv)
 stop_of msg.Busy = Some (stop.Refused which.Ebsy)
 stop_of msg.Unknown = Some (stop.Refused which.Eunk)
 stop_of msg.Malformed = Some (stop.Refused which.Ebad)
-stop_of (msg.ClipPart clip seq mark bytes) = Some stop.NotYet
 stop_of _ = None
 
 -- a client that joins is refused by the hello of a server of another version, too
@@ -34,17 +33,16 @@ abbrev pub stop_in : Option Talk → Msg → Option Stop
 stop_in None m = stop_of m
 stop_in (Some t) m = stop_joining m
 
--- the end that it brings at that place
-abbrev pub end_at : ℕ → Stop → ClientEnd
-end_at place stop.Bye = end.Bye
-end_at place (stop.Refused why) = end.Refused why
-end_at place stop.NotYet = end.NotYet place
+-- the end that it brings
+abbrev pub end_for : Stop → ClientEnd
+end_for stop.Bye = end.Bye
+end_for (stop.Refused why) = end.Refused why
 
 -- ---- one that injects
 
 -- its end where the stream ends the reading so
 abbrev pub end_by : Outcome Stop → ClientEnd
-end_by (Stopped place by) = end_at place by
+end_by (Stopped place by) = end_for by
 end_by (Failed bad) = end.BadPeer bad.place bad.reason
 
 -- the messages that it hears: those before the first that ends it

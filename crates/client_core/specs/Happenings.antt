@@ -12,6 +12,7 @@ use Rattle.client_talk.specs.Scripts as scripts
 use Rattle.client_core.specs.declared.client_end.ClientEnd.{ClientEnd}
 use Rattle.client_core.specs.declared.client_end.ClientEnd.TheVariants as end
 use Rattle.client_core.specs.declared.client_end.LostCause.TheVariants as lost
+use Rattle.client_core.specs.Clipboards.{TellWholes}
 use Rattle.client_core.specs.Hearing.{client}
 use Rattle.client_core.specs.Clients.{Client, while_going, slow_end, got}
 
@@ -84,6 +85,10 @@ step c (Got piece) = got piece c
 step c (Moment moment) = passes moment c
 step c (Took count) = took count c
 step c (Ended why) = ended why c
+
+-- its lines tell the bytes of the whole clipboards among the messages that it heard, and of no others
+abbrev pub TellsWholes : Client → Type 0
+TellsWholes c = TellWholes (lines c) c.heard
 
 -- the oldest first
 abbrev pub run : Client → List Happening → Client

@@ -3,7 +3,6 @@ use Rattle.std.specs.Prelude.{◌≡◌, ℕ, ◌≤◌, List, [], ◌∷◌, �
 use Rattle.std.specs.List.{flat_map}
 use Rattle.share_base.specs.declared.out_of_memory.OutOfMemory.{OutOfMemory}
 use Rattle.message_codec.specs.declared.messages.Msg.{Msg}
-use Rattle.message_codec.specs.Streams.{frames_of}
 use Rattle.message_codec.specs.Inboxes.{Inbox}
 use Rattle.message_codec.specs.Verdicts.{Verdict}
 use Rattle.message_reader.specs.declared.role.Role.{Role}
@@ -20,7 +19,7 @@ use Rattle.client_core.specs.declared.client_end.ClientEnd.{ClientEnd}
 use Rattle.client_core.specs.declared.client_end.ClientEnd.TheVariants as end
 use Rattle.client_core.specs.declared.client.ClientCore.{ClientCore}
 use Rattle.client_core.specs.declared.hearer.Hearer.{Hearer}
-use Rattle.client_core.specs.Hearing.{client, all_lines}
+use Rattle.client_core.specs.Hearing.{display, all_lines}
 use Rattle.client_core.specs.Showing.{Shows}
 use Rattle.client_core.specs.Clients.{Client, listens, hear, hear_all, fed, inbox_with, got}
 use Rattle.client_core.specs.Happenings.{waited, end_of_wait}
@@ -33,7 +32,7 @@ pub record Reads (r : ReaderParts) (role : Role) (stream : List ℕ) (messages :
 
 -- its screen is the client's, of whose lines those in front were cleared, and so is its conversation
 pub record Hears (h : Hearer) (c : Client) (front : List ℕ) : Type 0 where
-  pub shows : Shows h.printer (client c.shown) front
+  pub shows : Shows h.printer (display c.shown) front
   pub talk : h.talk ≡ c.talk
 
 -- the parts of a core that stands for the client
@@ -54,10 +53,10 @@ Follows old new next = (c : Client) (front : List ℕ) → Stands old c front �
 
 -- ---- a message
 
--- the hearer's client heard one message, whose frame stands at that place, and is done so by then; out of memory, it did not hear it
-abbrev pub Heeds : ℕ → Msg → Hearer → Hearer → Result (Option ClientEnd) OutOfMemory → Type 0
-Heeds place m old new (Ok done) = (c : Client) (front : List ℕ) → c.done ≡ None → place ≡ length (frames_of c.heard) → Hears old c front → Hears new (hear c m) front × (done ≡ (hear c m).done)
-Heeds place m old new (Err memory) = (c : Client) (front : List ℕ) → Hears old c front → Hears new c front
+-- the hearer's client heard one message, and is done so by then; out of memory, it did not hear it
+abbrev pub Heeds : Msg → Hearer → Hearer → Result (Option ClientEnd) OutOfMemory → Type 0
+Heeds m old new (Ok done) = (c : Client) (front : List ℕ) → c.done ≡ None → Hears old c front → Hears new (hear c m) front × (done ≡ (hear c m).done)
+Heeds m old new (Err memory) = (c : Client) (front : List ℕ) → Hears old c front → Hears new c front
 
 -- a message that does not end its client was applied; out of memory, it was not
 abbrev pub Applies : {A : Type 0} → Msg → Hearer → Hearer → Result A OutOfMemory → Type 0

@@ -1,3 +1,4 @@
+pub mod Clipboards
 pub mod Hearing
 pub mod Showing
 pub mod Ends

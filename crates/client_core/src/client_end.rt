@@ -44,11 +44,6 @@ pub enum ClientEnd {
         /// What is wrong with it.
         reason: Reason,
     },
-    /// A message stands there that no line is printed for yet.
-    NotYet {
-        /// Where its frame begins.
-        place: u64,
-    },
     /// The connection was lost.
     Lost(LostCause),
     /// It had as many turns as it was given.

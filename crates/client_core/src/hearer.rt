@@ -1,9 +1,10 @@
 //! What one message does to a client.
 
-ghost use Rattle.std.specs.Prelude.{◌≡◌, Some, IfOk, OnOk, OnErr};
+ghost use Rattle.std.specs.Prelude.{◌≡◌, ◌≢◌, Some, IfOk, OnOk, OnErr};
 ghost use Rattle.client_talk.specs.Answers.{hears};
 ghost use Rattle.client_core.specs.Ends.{stop_in, IsOfStream};
-ghost use Rattle.client_core.specs.Hearing.{heard_all};
+ghost use Rattle.message_codec.specs.declared.messages.Msg.TheVariants as message;
+ghost use Rattle.client_core.specs.Hearing.{heard, heard_all};
 ghost use Rattle.client_core.specs.Showing.{Turns, ShowsOn};
 ghost use Rattle.client_core.specs.Clients.{shown_of, slow_end};
 ghost use Rattle.client_core.specs.Kept.{Heeds, Applies};
@@ -22,11 +23,26 @@ pub struct Hearer {
     pub(crate) talk: Option<Conversation>,
 }
 
-// Applies one message of the conversation. On `OutOfMemory` neither the screen nor the conversation
-// changes: a message that is answered prints nothing.
+// The cursor leaves: the screen lets go of all that is down, and what the script copied is sent. On
+// `OutOfMemory` neither the screen nor the conversation changes.
+fn leave(printer: &mut Printer, talk: &mut Conversation) -> Result<(), OutOfMemory>
+    ensures shown { OnOk result (Turns (λ d. heard d message.Leave) printer.old printer.new) }
+    ensures heard { OnOk result (talk.new ≡ hears message.Leave talk.old) }
+    ensures same_screen { OnErr result (ShowsOn printer.old printer.new) }
+    ensures same_talk { OnErr result (talk.new ≡ talk.old) }
+{
+    printer.make_room()?;
+    talk.answer(&Msg::Leave)?;
+    printer.leave();
+    talk.note(&Msg::Leave);
+    Ok(())
+}
+
+// Applies a message other than a leaving. One that is answered prints nothing.
 #[tactic(auto, using(crate::proofs::Hearers::shows_one, crate::proofs::Hearers::shows_none, crate::proofs::Hearers::no_answer))]
-fn converse(printer: &mut Printer, talk: &mut Conversation, msg: &Msg) -> Result<(), OutOfMemory>
-    ensures shown { OnOk result (Turns (λ s. heard_all s (shown_of (Some talk.old) msg.now)) printer.old printer.new) }
+fn converse_on(printer: &mut Printer, talk: &mut Conversation, msg: &Msg) -> Result<(), OutOfMemory>
+    requires { msg.now ≢ message.Leave }
+    ensures shown { OnOk result (Turns (λ d. heard_all d (shown_of (Some talk.old) msg.now)) printer.old printer.new) }
     ensures heard { OnOk result (talk.new ≡ hears msg.now talk.old) }
     ensures same_screen { OnErr result (ShowsOn printer.old printer.new) }
     ensures same_talk { OnErr result (talk.new ≡ talk.old) }
@@ -41,15 +57,28 @@ fn converse(printer: &mut Printer, talk: &mut Conversation, msg: &Msg) -> Result
     Ok(())
 }
 
+// Applies one message of the conversation. On `OutOfMemory` neither the screen nor the conversation
+// changes.
+fn converse(printer: &mut Printer, talk: &mut Conversation, msg: &Msg) -> Result<(), OutOfMemory>
+    ensures shown { OnOk result (Turns (λ d. heard_all d (shown_of (Some talk.old) msg.now)) printer.old printer.new) }
+    ensures heard { OnOk result (talk.new ≡ hears msg.now talk.old) }
+    ensures same_screen { OnErr result (ShowsOn printer.old printer.new) }
+    ensures same_talk { OnErr result (talk.new ≡ talk.old) }
+{
+    match msg {
+        Msg::Leave => leave(printer, talk),
+        _ => converse_on(printer, talk, msg),
+    }
+}
+
 impl Hearer {
-    /// Hears one message, whose frame stands at that offset, or returns the end that it brings. On
-    /// `OutOfMemory` it is not heard.
-    pub fn heed(&mut self, place: u64, msg: &Msg) -> Result<Option<ClientEnd>, OutOfMemory>
-        ensures heeds { Heeds place msg.now self.old self.new result }
+    /// Hears one message, or returns the end that it brings. On `OutOfMemory` it is not heard.
+    pub fn heed(&mut self, msg: &Msg) -> Result<Option<ClientEnd>, OutOfMemory>
+        ensures heeds { Heeds msg.now self.old self.new result }
         ensures ends { IfOk result IsOfStream }
     {
         match self.stop(msg) {
-            Some(stop) => Ok(Some(stop.end(place))),
+            Some(stop) => Ok(Some(stop.end())),
             None => {
                 self.hear(msg)?;
                 Ok(self.slow_end())

@@ -10,13 +10,12 @@ use message_codec::Msg;
 use message_reader::{BadFrame, MessageReader, ReadStep};
 use share_base::OutOfMemory;
 
-// Hears one message, whose frame begins at that offset, or returns the end that it brings. On
-// `OutOfMemory` it is not heard.
-fn heed(hearer: &mut Hearer, place: u64, msg: Msg) -> Result<Option<ClientEnd>, OutOfMemory>
-    ensures heeds { Heeds place msg hearer.old hearer.new result }
+// Hears one message, or returns the end that it brings. On `OutOfMemory` it is not heard.
+fn heed(hearer: &mut Hearer, msg: Msg) -> Result<Option<ClientEnd>, OutOfMemory>
+    ensures heeds { Heeds msg hearer.old hearer.new result }
     ensures ends { IfOk result IsOfStream }
 {
-    hearer.heed(place, &msg)
+    hearer.heed(&msg)
 }
 
 /// Hears the messages of the next piece up to the first that ends the client, and returns the end. On
@@ -39,8 +38,8 @@ pub fn hear_piece(
             ReadStep::Bad(BadFrame { place, reason }) => {
                 return Ok(Some(ClientEnd::BadPeer { place, reason }));
             }
-            ReadStep::Message { place, msg } => {
-                if let Some(end) = heed(hearer, place, msg)? {
+            ReadStep::Message { place: _, msg } => {
+                if let Some(end) = heed(hearer, msg)? {
                     return Ok(Some(end));
                 }
             }

@@ -9,8 +9,12 @@
 
 mod client;
 mod client_end;
+mod clipboards;
+#[cfg(test)]
+mod clip_tests;
 mod hearer;
 mod hearing;
+mod laws;
 mod options;
 mod printer;
 mod stop;
@@ -21,3 +25,5 @@ mod tests;
 
 pub use client::ClientCore;
 pub use client_end::{ClientEnd, LostCause, Which};
+pub use clipboards::CLIP_LIMIT;
+pub use laws::wholes_are_told;

@@ -3,23 +3,26 @@
 ghost use Rattle.std.specs.Prelude.{◌≡◌, ◌≤◌, [], OnOk, OnErr, length};
 ghost use Rattle.message_codec.specs.declared.messages.Msg.TheVariants as message;
 ghost use Rattle.held_inputs.specs.Screen.{Applies, after};
-ghost use Rattle.client_core.specs.Hearing.{fresh};
-ghost use Rattle.client_core.specs.Showing.{Shows, Turns, Hears, ShowsOn, Clears, LetsGo};
+ghost use Rattle.client_core.specs.Hearing.{fresh, with_screen};
+ghost use Rattle.client_core.specs.Showing.{Shows, Turns, Hears, ShowsOn, Clears, LetsGo, HasRoom, SamePrinted};
 
+use crate::clipboards::Clipboards;
 use crate::options::{add_line, add_options, set_options};
-use held_inputs::{Injector, Line};
-use message_codec::Msg;
+use held_inputs::{Injector, Line, put_line};
+use message_codec::{ClipMark, Msg};
 use modifier_map::ModMap;
-use share_base::{Lines, OutOfMemory};
+use share_base::{ClipId, Lines, OutOfMemory};
 use std::alloc::Global;
 
 /// Room for the lines of one message that is applied to an injector, in bytes.
 const ROOM: usize = 16384;
 
-/// A screen's injector, and the lines that were printed and not cleared.
+/// A screen's injector, the clipboards that are on their way, and the lines that were printed and not
+/// cleared.
 #[derive(Drop)]
 pub struct Printer {
     injector: Injector,
+    clips: Clipboards,
     lines: Vec<u8>,
 }
 
@@ -31,6 +34,7 @@ impl Printer {
     {
         Printer {
             injector: Injector::new(ModMap::new()),
+            clips: Clipboards::new(alloc),
             lines: Vec::new(alloc),
         }
     }
@@ -44,6 +48,12 @@ impl Printer {
             Msg::ResetOptions => self.reset_options(),
             Msg::SetOptions { words } => self.set_options(words.as_slice()),
             Msg::Grab { clip, seq: _ } => add_line(&mut self.lines, Line::Grab { clip: *clip }),
+            Msg::ClipPart {
+                clip,
+                seq,
+                mark,
+                bytes,
+            } => self.hear_part(*clip, *seq, *mark, bytes.as_slice()),
             _ => self.apply(msg),
         }
     }
@@ -73,13 +83,54 @@ impl Printer {
         Ok(())
     }
 
-    fn apply(&mut self, msg: &Msg) -> Result<(), OutOfMemory>
-        ensures ok { OnOk result (Turns (λ s. after s (Applies msg.now)) self.old self.new) }
+    fn hear_part(
+        &mut self,
+        clip: ClipId,
+        seq: u32,
+        mark: ClipMark,
+        bytes: &[u8],
+    ) -> Result<(), OutOfMemory>
+        ensures ok { OnOk result (Hears (message.ClipPart clip seq mark bytes.now) self.old self.new) }
         ensures err { OnErr result (ShowsOn self.old self.new) }
     {
-        self.lines.reserve(ROOM)?;
-        self.injector.apply_to(msg, &mut self.lines);
+        self.lines.reserve(self.clips.room(clip, mark))?;
+        if let Some(bytes) = self.clips.take(clip, seq, mark, bytes)? {
+            put_line(&mut self.lines, Line::Clip { clip, bytes });
+        }
         Ok(())
+    }
+
+    fn apply(&mut self, msg: &Msg) -> Result<(), OutOfMemory>
+        ensures ok { OnOk result (Turns (λ d. with_screen (after d.screen (Applies msg.now)) d) self.old self.new) }
+        ensures err { OnErr result (ShowsOn self.old self.new) }
+    {
+        self.make_room()?;
+        self.apply_in_room(msg);
+        Ok(())
+    }
+
+    fn apply_in_room(&mut self, msg: &Msg)
+        requires { HasRoom self.old }
+        ensures { Turns (λ d. with_screen (after d.screen (Applies msg.now)) d) self.old self.new }
+    {
+        self.injector.apply_to(msg, &mut self.lines);
+    }
+
+    /// Makes room for the lines of the cursor's leaving.
+    pub fn make_room(&mut self) -> Result<(), OutOfMemory>
+        ensures ok { OnOk result (HasRoom self.new) }
+        ensures same { SamePrinted self.old self.new }
+    {
+        self.lines.reserve(ROOM)?;
+        Ok(())
+    }
+
+    /// Lets the cursor leave: all that is down goes up. It takes no memory.
+    pub fn leave(&mut self)
+        requires { HasRoom self.old }
+        ensures { Hears message.Leave self.old self.new }
+    {
+        self.apply_in_room(&Msg::Leave);
     }
 
     /// The lines that were printed and not cleared.

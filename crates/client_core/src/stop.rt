@@ -1,7 +1,7 @@
 //! How a message ends a client.
 
 ghost use Rattle.std.specs.Prelude.{◌≡◌, Some};
-ghost use Rattle.client_core.specs.Ends.{stop_of, stop_joining, end_at, IsOfStream};
+ghost use Rattle.client_core.specs.Ends.{stop_of, stop_joining, end_for, IsOfStream};
 
 use crate::client_end::{ClientEnd, Which};
 use client_talk::is_welcome;
@@ -14,8 +14,6 @@ pub enum Stop {
     Bye,
     /// It refuses the client.
     Refused(Which),
-    /// It is a part of a clipboard, and no line is printed for clipboards yet.
-    NotYet,
 }
 
 impl Stop {
@@ -29,7 +27,6 @@ impl Stop {
             Msg::Busy => Some(Stop::Refused(Which::Ebsy)),
             Msg::Unknown => Some(Stop::Refused(Which::Eunk)),
             Msg::Malformed => Some(Stop::Refused(Which::Ebad)),
-            Msg::ClipPart { .. } => Some(Stop::NotYet),
             _ => None,
         }
     }
@@ -50,15 +47,14 @@ impl Stop {
         }
     }
 
-    /// The client's end, where the message's frame stands at that place.
-    pub fn end(self, place: u64) -> ClientEnd
-        ensures value { result ≡ end_at place self }
+    /// The client's end.
+    pub fn end(self) -> ClientEnd
+        ensures value { result ≡ end_for self }
         ensures of_stream { IsOfStream (Some result) }
     {
         match self {
             Stop::Bye => ClientEnd::Bye,
             Stop::Refused(which) => ClientEnd::Refused(which),
-            Stop::NotYet => ClientEnd::NotYet { place },
         }
     }
 }

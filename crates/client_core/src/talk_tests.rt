@@ -23,7 +23,7 @@ type Talk = (
 
 const NEVER: u64 = 18_446_744_073_709_551_615;
 
-const TALKS: [Talk; 24] = [
+const TALKS: [Talk; 27] = [
     (b"", b"", 0, b"", 0, b"", b"", None, 9000),
     (
         b"",
@@ -278,9 +278,45 @@ const TALKS: [Talk; 24] = [
         b"\0\0\0\x04QINF",
         160,
         b"",
-        b"\0\0\0\x12Synergy\0\x01\0\x06\0\0\0\x03pad\0\0\0\x12DINF\0\0\0\0\x04\0\x03\0\0\0\x02\0\x01\x80\0\0\0\x12DINF\0\0\0\0\x03\x20\x02\x58\0\0\x01\x90\x01\x2c",
+        b"\0\0\0\x12Synergy\0\x01\0\x06\0\0\0\x03pad\0\0\0\x09CCLP\0\0\0\0\0\0\0\0\x12DINF\0\0\0\0\x04\0\x03\0\0\0\x02\0\x01\x80\0\0\0\x12DINF\0\0\0\0\x03\x20\x02\x58\0\0\x01\x90\x01\x2c",
         None,
         9060,
+    ),
+    // A copy grabs at once, and is sent at the next leaving, once, with the sequence of the latest entering.
+    (
+        b"copy 0 6869",
+        b"\0\0\0\x0bSynergy\0\x01\0\x06\0\0\0\x04CIAK",
+        1,
+        b"\0\0\0\x0eCINN\0\0\0\0\0\0\0\x05\0\0\0\0\0\x04COUT\0\0\0\x04COUT",
+        1,
+        b"enter 0 0 5 0\nleave\nleave\n",
+        b"\0\0\0\x12Synergy\0\x01\0\x06\0\0\0\x03pad\0\0\0\x09CCLP\0\0\0\0\0\0\0\0\x0fDCLP\0\0\0\0\x05\x01\0\0\0\x012\0\0\0\x10DCLP\0\0\0\0\x05\x02\0\0\0\x02hi\0\0\0\x0eDCLP\0\0\0\0\x05\x03\0\0\0\0",
+        None,
+        9001,
+    ),
+    // Both are sent, the clipboard first; of two copies of one the later one is.
+    (
+        b"copy 1 61\ncopy 0 -\ncopy 1 62",
+        b"\0\0\0\x0bSynergy\0\x01\0\x06\0\0\0\x04CIAK\0\0\0\x0eCINN\0\0\0\0\0\0\0\x07\0\0",
+        1,
+        b"\0\0\0\x04COUT",
+        1,
+        b"enter 0 0 7 0\nleave\n",
+        b"\0\0\0\x12Synergy\0\x01\0\x06\0\0\0\x03pad\0\0\0\x09CCLP\x01\0\0\0\x07\0\0\0\x09CCLP\0\0\0\0\x07\0\0\0\x09CCLP\x01\0\0\0\x07\0\0\0\x0fDCLP\0\0\0\0\x07\x01\0\0\0\x010\0\0\0\x0eDCLP\0\0\0\0\x07\x03\0\0\0\0\0\0\0\x0fDCLP\x01\0\0\0\x07\x01\0\0\0\x011\0\0\0\x0fDCLP\x01\0\0\0\x07\x02\0\0\0\x01b\0\0\0\x0eDCLP\x01\0\0\0\x07\x03\0\0\0\0",
+        None,
+        9001,
+    ),
+    // A clipboard that another screen took is not sent.
+    (
+        b"copy 0 61\ncopy 1 62",
+        b"\0\0\0\x0bSynergy\0\x01\0\x06\0\0\0\x04CIAK",
+        1,
+        b"\0\0\0\x09CCLP\0\0\0\0\0\0\0\0\x04COUT",
+        1,
+        b"grab 0\nleave\n",
+        b"\0\0\0\x12Synergy\0\x01\0\x06\0\0\0\x03pad\0\0\0\x09CCLP\0\0\0\0\0\0\0\0\x09CCLP\x01\0\0\0\0\0\0\0\x0fDCLP\x01\0\0\0\0\x01\0\0\0\x011\0\0\0\x0fDCLP\x01\0\0\0\0\x02\0\0\0\x01b\0\0\0\x0eDCLP\x01\0\0\0\0\x03\0\0\0\0",
+        None,
+        9001,
     ),
 ];
 

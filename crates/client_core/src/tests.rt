@@ -70,12 +70,12 @@ const ROWS: [Row; 12] = [
         None,
         None,
     ),
-    // A clipboard is grabbed and not printed yet.
+    // Parts of a clipboard print nothing until it is whole.
     (
         b"\0\0\0\x09CCLP\x01\0\0\0\0\0\0\0\x0fDCLP\0\0\0\0\0\x01\0\0\0\x015\0\0\0\x04COUT",
-        b"grab 1\n",
+        b"grab 1\nleave\n",
         b"",
-        Some(ClientEnd::NotYet { place: 13 }),
+        None,
         None,
     ),
     (

@@ -1,3 +1,4 @@
 pub mod Rates
 pub mod Lines
 pub mod Names
+pub mod Sending

@@ -6,7 +6,7 @@ use Rattle.keepalive_clock.specs.KeepAlive.{after_hearing}
 use Rattle.client_talk.specs.declared.conversation.TheConstants.{DEFAULT_RATE}
 use Rattle.client_talk.specs.declared.version.TheConstants.{MAJOR, MINOR}
 use Rattle.client_talk.specs.Options.{rate_after}
-use Rattle.client_talk.specs.Talks.{Talk, sends}
+use Rattle.client_talk.specs.Talks.{Talk, sends, sends_copies, forgets_copy}
 
 -- a server of the client's major version, and of its minor or a later one
 abbrev pub is_welcome : (major minor : ℕ) → Bool
@@ -18,10 +18,13 @@ information w h = msg.Info (pos 0) (pos 0) w h 0 (pos (w / 2)) (pos (h / 2))
 
 -- ---- answers
 
+-- where the cursor leaves, what the script copied is sent
+
 abbrev pub answers : Msg → Talk → Talk
 answers (msg.Hello major minor) t = sends (msg.HelloBack MAJOR MINOR t.name) t
 answers msg.QueryInfo t = sends (information t.w t.h) t
 answers msg.Alive t = sends msg.Alive t
+answers msg.Leave t = sends_copies t
 answers _ t = t
 
 -- ---- notes
@@ -33,6 +36,8 @@ abbrev pub notes_of : Msg → Talk → Talk
 notes_of msg.InfoAck t = record t { is_joined = true; is_resized = false }
 notes_of msg.ResetOptions t = with_rate DEFAULT_RATE t
 notes_of (msg.SetOptions words) t = with_rate (rate_after t.alive.rate words) t
+notes_of (msg.Enter x y seq mask) t = record t { entered = seq }
+notes_of (msg.Grab clip seq) t = forgets_copy clip t
 notes_of _ t = t
 
 -- the server was heard at the client's own moment

@@ -2,9 +2,10 @@
 use Rattle.std.specs.Prelude.{◌≡◌, ℕ, ◌+◌, ◌<◌, min, Bool, true, false, not, ◌&&◌, nat_le, List, [], ◌∷◌, ◌++◌, length, drop, fold, Option, Some, None, if◌then◌else◌}
 use Rattle.std.specs.Option.{option_to_list}
 use Rattle.keepalive_clock.specs.KeepAlive.{death_of}
+use Rattle.message_codec.specs.declared.messages.Msg.TheVariants as msg
 use Rattle.script_screen.specs.declared.client_script.ClientLine.{ClientLine}
 use Rattle.script_screen.specs.declared.client_script.ClientLine.TheVariants as line
-use Rattle.client_talk.specs.Talks.{Talk, sends, is_slow}
+use Rattle.client_talk.specs.Talks.{Talk, sends, is_slow, keeps_copy}
 use Rattle.client_talk.specs.Answers.{information}
 
 -- ---- which line may run
@@ -22,10 +23,10 @@ may_run t = t.is_joined && not (is_slow t) && is_awake_at t.at t.sleeps_until
 abbrev pub resized : (w h : ℕ) → Talk → Talk
 resized w h t = record t { w = w; h = h; is_resized = true }
 
--- (a copy does nothing yet)
+-- a copy takes the clipboard with the sequence of the latest entering, and is sent later
 abbrev pub does : ClientLine → Talk → Talk
 does (line.Sleep ms) t = record t { sleeps_until = Some (t.at + ms) }
-does (line.Copy clip bytes) t = t
+does (line.Copy clip bytes) t = sends (msg.Grab clip t.entered) (keeps_copy clip bytes t)
 does (line.Resize w h) t = sends (information w h) (resized w h t)
 
 abbrev pub past : List ClientLine → Talk → Talk

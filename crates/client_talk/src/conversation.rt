@@ -13,13 +13,15 @@ ghost use Rattle.client_talk.specs.Answers.{answers, notes};
 ghost use Rattle.client_talk.specs.Scripts as script_spec;
 ghost use Rattle.client_talk.specs.Scripts.{run_script, does, past_one, resized, RunsNext};
 
+use crate::clip_sending::queue_copies;
+use crate::copies::Copies;
 use crate::options::rate_after;
 use crate::outbox::Outbox;
 use crate::version::{MAJOR, MINOR};
 use keepalive_clock::Alive;
 use message_codec::Msg;
 use script_screen::{ClientLine, ClientScript};
-use share_base::{Octets, OutOfMemory, ScreenName, moment_of};
+use share_base::{ClipId, Octets, OutOfMemory, ScreenName, moment_of};
 use std::alloc::Global;
 use std::marker::Model;
 
@@ -43,6 +45,8 @@ pub struct Conversation {
     sleeps_until: Option<u64>,
     is_joined: bool,
     is_resized: bool,
+    entered: u32,
+    copies: Copies,
     outbox: Outbox,
 }
 
@@ -63,6 +67,8 @@ impl Model for Conversation {
       sleeps_until = c.sleeps_until;
       is_joined = c.is_joined;
       is_resized = c.is_resized;
+      entered = c.entered;
+      copies = c.copies;
       untaken = c.outbox;
     } };
 
@@ -148,12 +154,15 @@ impl Conversation {
             sleeps_until: None,
             is_joined: false,
             is_resized: false,
+            entered: 0,
+            copies: Copies::new(),
             outbox: Outbox::new(alloc),
         }
     }
 
     /// Queues the answer to a message, if it has one: a hello is answered by the client's, a question for
-    /// information by that of the screen, and a beat by a beat. On `OutOfMemory` nothing changes.
+    /// information by that of the screen, a beat by a beat, and the cursor's leaving by what the script
+    /// copied. On `OutOfMemory` nothing changes.
     pub fn answer(&mut self, msg: &Msg) -> Result<(), OutOfMemory>
         ensures ok { OnOk result (self.new ≡ answers msg.now self.old) }
         ensures err { OnErr result (self.new ≡ self.old) }
@@ -162,6 +171,7 @@ impl Conversation {
             Msg::Hello { .. } => self.answer_hello(),
             Msg::QueryInfo => self.answer_query(),
             Msg::Alive => self.send(&Msg::Alive),
+            Msg::Leave => self.send_copies(),
             _ => Ok(()),
         }
     }
@@ -182,6 +192,15 @@ impl Conversation {
         self.send(&msg)
     }
 
+    fn send_copies(&mut self) -> Result<(), OutOfMemory>
+        ensures ok { OnOk result (self.new ≡ spec.sends_copies self.old) }
+        ensures err { OnErr result (self.new ≡ self.old) }
+    {
+        queue_copies(&mut self.outbox, self.entered, &self.copies)?;
+        self.copies = Copies::new();
+        Ok(())
+    }
+
     // The information of the screen as it is.
     fn information(&self) -> Msg
         ensures { result ≡ answer_spec.information self.now.w self.now.h }
@@ -197,8 +216,8 @@ impl Conversation {
         self.outbox.queue(msg)
     }
 
-    /// Notes a message: that the server was heard, whether it took the screen's information, and the rate
-    /// of its beats.
+    /// Notes a message: that the server was heard, whether it took the screen's information, the rate of
+    /// its beats, the sequence of an entering, and that a clipboard was taken by another screen.
     pub fn note(&mut self, msg: &Msg)
         ensures { self.new ≡ notes msg.now self.old }
     {
@@ -212,6 +231,8 @@ impl Conversation {
             Msg::SetOptions { words } => {
                 self.alive.rate = rate_after(self.alive.rate, words.as_slice());
             }
+            Msg::Enter { seq, .. } => self.entered = *seq,
+            Msg::Grab { clip, .. } => self.copies.forget(*clip),
             _ => {}
         }
     }
@@ -349,8 +370,11 @@ impl Conversation {
                 self.sleep(ms);
                 Ok(true)
             }
-            Some(ClientLine::Copy { .. }) => {
-                self.pass_line();
+            Some(ClientLine::Copy { clip, bytes }) => {
+                let clip = *clip;
+                let mut kept = Octets::new(self.alloc);
+                kept.extend(bytes.as_slice())?;
+                self.copy(clip, kept)?;
                 Ok(true)
             }
             Some(ClientLine::Resize { w, h }) => {
@@ -373,6 +397,17 @@ impl Conversation {
     {
         self.pass_line();
         self.sleeps_until = Some(self.at + ms as u64);
+    }
+
+    fn copy(&mut self, clip: ClipId, bytes: Octets) -> Result<(), OutOfMemory>
+        ensures ok { OnOk result (self.new ≡ does (line.Copy clip bytes) (past_one self.old)) }
+        ensures err { OnErr result (self.new ≡ self.old) }
+    {
+        let seq = self.entered;
+        self.send(&Msg::Grab { clip, seq })?;
+        self.pass_line();
+        self.copies.keep(clip, bytes);
+        Ok(())
     }
 
     fn resize(&mut self, w: u16, h: u16) -> Result<(), OutOfMemory>

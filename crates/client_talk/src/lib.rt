@@ -7,7 +7,9 @@
 //! the screen.
 #![tactic(auto)]
 
+mod clip_sending;
 mod conversation;
+mod copies;
 mod options;
 mod outbox;
 #[cfg(test)]

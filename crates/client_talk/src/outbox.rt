@@ -4,7 +4,7 @@ ghost use Rattle.std.specs.Prelude.{◌≡◌, ◌≤◌, ◌++◌, length, OnOk
 ghost use Rattle.wire_frames.specs.declared.limits.TheConstants.{BODY_LIMIT};
 ghost use Rattle.message_codec.specs.Spelling.{body_of};
 ghost use Rattle.message_codec.specs.Streams.{frame_of};
-ghost use Rattle.client_talk.specs.Outboxes.{nothing, queued, without};
+ghost use Rattle.client_talk.specs.Outboxes.{nothing, queued, without, cut_back};
 
 use bytes::BytesMut;
 use message_codec::{Msg, body_len, encode};
@@ -78,6 +78,19 @@ impl Outbox {
         ensures { result ≡ self.now.is_slow }
     {
         self.is_slow
+    }
+
+    /// Returns the allocator that it allocates from.
+    pub fn alloc(&self) -> Global {
+        self.alloc
+    }
+
+    /// Cuts the queue back to its first `len` bytes, and to whether it was slow then.
+    pub fn cut_back(&mut self, len: usize, was_slow: bool)
+        ensures { self.new ≡ cut_back len was_slow self.old }
+    {
+        self.bytes.truncate(len);
+        self.is_slow = was_slow;
     }
 
     /// The bytes that are queued and not taken, first to last.

@@ -47,7 +47,7 @@ end_closes seq (Some r) =
     end_tests (r.seq == seq) (length r.bytes == r.size) r (Dropped (SeqChanged r.seq seq))
     (Dropped (Mismatch r.size (length r.bytes))) refl refl
 
-answered : (limit : ℕ) (m : ClipMark) (seq : ℕ) (bytes : List ℕ) (r : Option Run)
+pub answered : (limit : ℕ) (m : ClipMark) (seq : ℕ) (bytes : List ℕ) (r : Option Run)
     → whole_in (answer limit m seq bytes r) ≡ whole_by m seq r
 answered limit mark.Start seq bytes r = start_none limit (size_of bytes)
 answered limit mark.Chunk seq bytes r = chunk_none seq bytes r

@@ -1,6 +1,6 @@
 -- What an assembly keeps and answers.
-use Rattle.std.specs.Prelude.{◌≡◌, ℕ, ◌+◌, ◌≤◌, not, ◌==◌, nat_le, List, ◌∷◌, length, Option, Some}
-use Rattle.std.specs.Prelude.{None, IfSome, if◌then◌else◌}
+use Rattle.std.specs.Prelude.{◌≡◌, ℕ, ◌+◌, ◌≤◌, not, ◌==◌, nat_le, List, [], ◌∷◌, length, Option}
+use Rattle.std.specs.Prelude.{Some, None, IfSome, if◌then◌else◌}
 use Rattle.share_base.specs.declared.clip_id.ClipId.{ClipId}
 use Rattle.message_codec.specs.declared.clip_mark.ClipMark.{ClipMark}
 use Rattle.message_codec.specs.declared.clip_mark.ClipMark.TheVariants as mark
@@ -21,6 +21,11 @@ pub record AssemblyParts : Type 0 where
 -- the run is no longer than it is to become, and that is within the limit
 abbrev pub HoldsLittle : AssemblyParts → Type 0
 HoldsLittle a = IfSome a.run (λ r. (length r.bytes ≤ r.size) × (r.size ≤ a.limit))
+
+-- the bytes that have come of what is on its way
+abbrev pub bytes_so_far : Option Run → List ℕ
+bytes_so_far None = []
+bytes_so_far (Some r) = r.bytes
 
 -- ---- answers
 

@@ -1,10 +1,10 @@
 //! Putting the parts of a clipboard together.
 
-ghost use Rattle.std.specs.Prelude.{◌≡◌, [], None, IfOk, OnOk, OnErr};
+ghost use Rattle.std.specs.Prelude.{◌≡◌, ◌≤◌, [], None, IfOk, OnOk, OnErr, length};
 ghost use Rattle.share_base.specs.declared.clip_id.ClipId.{ClipId as Clip};
 ghost use Rattle.message_codec.specs.declared.clip_mark.ClipMark.TheVariants as mark;
 ghost use Rattle.clip_chunks.specs.Assemblies.{AssemblyParts, HoldsLittle, IsAnswer, Keeps};
-ghost use Rattle.clip_chunks.specs.Assemblies.{StandsFor, Takes, Answers};
+ghost use Rattle.clip_chunks.specs.Assemblies.{StandsFor, Takes, Answers, bytes_so_far};
 
 use crate::run::Run;
 use crate::size::size_of as read_size;
@@ -63,6 +63,17 @@ impl Assembly {
             ClipMark::Start => Ok(self.start(seq, bytes)),
             ClipMark::Chunk => self.add(seq, bytes),
             ClipMark::End => Ok(self.end(seq)),
+        }
+    }
+
+    /// Returns how many bytes have come of the clipboard that is on its way; 0 if none is.
+    pub fn len(&self) -> usize
+        ensures value { result ≡ length (bytes_so_far self.now.run) }
+        ensures bound { result ≤ self.now.limit }
+    {
+        match &self.run {
+            Some(run) => run.bytes.len(),
+            None => 0,
         }
     }
 

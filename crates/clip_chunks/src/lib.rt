@@ -24,5 +24,5 @@ pub use book::ClipBook;
 pub use laws::{
     chunks_are_full, known_were_brought, other_parts_pass, whole_where_found, wholes_grow,
 };
-pub use sending::frames_of;
+pub use sending::{CHUNK_LEN, frames_of};
 pub use took::{Cause, Took};

@@ -8,7 +8,7 @@ use message_codec::ClipMark;
 use share_base::{ClipId, Octets, OutOfMemory};
 
 /// How many bytes a full chunk has.
-const CHUNK_LEN: usize = 32_768;
+pub const CHUNK_LEN: usize = 32_768;
 
 /// How many bytes the body of a part has besides the part's own: the code, the clipboard, the
 /// sequence, the mark, and how many bytes follow.

@@ -49,7 +49,7 @@ accepted_on accepted.NotNow p q h = act_led (trace_accept p) (act.Accept accepte
 accepted_on accepted.Failed p q h = act_led (trace_accept p) (act.Accept accepted.Failed) p q refl h
 
 -- the room of a read
-room_of : Act → ℕ
+abbrev room_of : Act → ℕ
 room_of (act.Read serial room answer bytes) = room
 room_of a = 0
 

@@ -2,6 +2,7 @@
 use Rattle.std.specs.Prelude.{◌≡◌, ℕ, List, [], ◌∷◌, ◌++◌}
 use Rattle.std.proofs.Common.{refl, ap, subst, sym, ◌∙◌, append_assoc}
 use Rattle.std.proofs.lemmas.List.{append-nil}
+use Rattle.script_screen.specs.declared.trace.TraceLine.{TraceLine}
 use Rattle.hub_acts.specs.declared.act.Act.{Act}
 use Rattle.hub_acts.specs.declared.act.Act.TheVariants as act
 use Rattle.hub_mem.specs.Answers.{Played, trace_listen, trace_wait, trace_now, trace_accept, trace_read, trace_write, trace_close}
@@ -36,8 +37,14 @@ pub record PlaysOn (old new : Played) : Type 0 where
 pub plays_stay : (p : Played) → PlaysOn p p
 plays_stay p = record { lines = refl; failing = refl; made = []; acts = sym (append-nil p.acts); given = tt }
 
-same_played : (p q : Played) → q.lines ≡ p.lines → q.failing ≡ p.failing → (made : List Act) → q.acts ≡ p.acts ++ made → q ≡ record p { acts = p.acts ++ made }
-same_played p q refl refl made refl = refl
+abbrev played : List TraceLine → List ℕ → List Act → Played
+played lines failing acts = record { lines = lines; failing = failing; acts = acts }
+
+same_given : (p q : Played) (acts made : List Act) → q.lines ≡ p.lines → q.failing ≡ p.failing → q.acts ≡ acts → AreGiven q made → AreGiven (played p.lines p.failing acts) made
+same_given p q acts made lines failing same g =
+    subst (λ (xs : List Act). AreGiven (played p.lines p.failing xs) made) same
+    (subst (λ (ns : List ℕ). AreGiven (played p.lines ns q.acts) made) failing
+    (subst (λ (ls : List TraceLine). AreGiven (played ls q.failing q.acts) made) lines g))
 
 more_given : (p : Played) (first second : List Act) → AreGiven p first → AreGiven (record p { acts = p.acts ++ first }) second → AreGiven p (first ++ second)
 more_given p [] second g h = subst (λ (xs : List Act). AreGiven (record p { acts = xs }) second) (append-nil p.acts) h
@@ -50,5 +57,5 @@ plays_go_on p q r h k = record {
   failing = k.failing ∙ h.failing;
   made = h.made ++ k.made;
   acts = k.acts ∙ ap (λ (xs : List Act). xs ++ k.made) h.acts ∙ append_assoc p.acts h.made k.made;
-  given = more_given p h.made k.made h.given (subst (λ (s : Played). AreGiven s k.made) (same_played p q h.lines h.failing h.made h.acts) k.given);
+  given = more_given p h.made k.made h.given (same_given p q (p.acts ++ h.made) k.made h.lines h.failing h.acts k.given);
 }

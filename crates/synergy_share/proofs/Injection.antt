@@ -10,7 +10,7 @@ use Rattle.share_base.specs.Writing.{SinkState}
 use Rattle.message_codec.specs.declared.messages.End.TheVariants as ends
 use Rattle.message_codec.specs.declared.messages.Msg.{Msg}
 use Rattle.message_reader.specs.declared.role.Role.TheVariants as role
-use Rattle.message_codec.specs.Streams.{plain}
+use Rattle.message_codec.specs.Streams.{AreBytes, plain}
 use Rattle.message_codec.specs.Verdicts.{Verdict}
 use Rattle.message_reader.specs.Roles.{reader_of}
 use Rattle.message_reader.specs.Endings.{before_end, IsFront}
@@ -26,16 +26,17 @@ use Rattle.client_core.specs.Happenings as happenings
 use Rattle.client_core.specs.Injecting.{injected, Injects, Grows}
 use Rattle.client_core.proofs.Screens as screens
 use Rattle.client_core.proofs.Injections as injections
-use Rattle.client_core.proofs.ScreenRanges.{FieldsFit, fields-fit, fit-all_lines}
+use Rattle.client_core.proofs.ScreenRanges.{MessageFits, messages-fit, fit-all_lines}
 use Rattle.synergy_share.specs.declared.status.Status.{Status}
 use Rattle.synergy_share.specs.declared.status.Status.TheVariants as status
+use Rattle.synergy_share.specs.declared.commands.TheConstants.{INPUT_LIMIT}
 use Rattle.synergy_share.specs.Ways.{Way, injecting}
 use Rattle.synergy_share.specs.Endings.{status_of, decided, printed_of}
 use Rattle.synergy_share.specs.Cores.{IsDone, Feeds, Clears, EndsHere, EndsInput, AddsLast}
 use Rattle.synergy_share.specs.Commands.{counted, Writes, Reads, Balances, Releases}
 use Rattle.synergy_share.specs.Injecting.{Injected, done_so}
 use Rattle.synergy_share.proofs.InputEnds.{end_for, ends_so}
-use Rattle.synergy_share.proofs.Runs.{front_of_all}
+use Rattle.synergy_share.proofs.Runs.{front_of_all, take-bytes}
 
 -- a client that goes on has no end
 pub goes_on : (done : Option ClientEnd) → option_map status_of done ≡ None → done ≡ None
@@ -85,14 +86,14 @@ all-front : {A : Type 0} (P : A → Type 0) (xs ys : List A) → AllByRecursion 
 all-front P [] ys all = tt
 all-front P (x ∷ xs) ys all = (all.0, all-front P xs ys all.1)
 
-printed_fit : (stream : List ℕ) (v : Verdict (plain injecting.sender) stream) (messages : List Msg) → IsFront messages (printed_of injecting v) → AllByRecursion FieldsFit messages
-printed_fit stream v messages (more, all) =
+printed_fit : (stream : List ℕ) (v : Verdict (plain injecting.sender) stream) (messages : List Msg) → AreBytes stream → IsFront messages (printed_of injecting v) → AllByRecursion MessageFits messages
+printed_fit stream v messages small (more, all) =
     let (later, whole) = before_end-front stop_of v.messages in
-    let good : AllByRecursion FieldsFit v.messages = fields-fit (plain injecting.sender) [] v.messages v.good in
-    let heard = all-front FieldsFit (before_end stop_of v.messages) later (subst (AllByRecursion FieldsFit) whole good) in
-    all-front FieldsFit messages more (subst (AllByRecursion FieldsFit) all heard)
+    let good : AllByRecursion MessageFits v.messages = messages-fit (plain injecting.sender) stream v small in
+    let heard = all-front MessageFits (before_end stop_of v.messages) later (subst (AllByRecursion MessageFits) whole good) in
+    all-front MessageFits messages more (subst (AllByRecursion MessageFits) all heard)
 
-balances : (messages : List Msg) (old new : SinkState) → AllByRecursion FieldsFit messages → new.taken ≡ after old.taken (flat_map line_of (client messages).lines ++ flat_map line_of (releases (client messages).lines)) → Balances old new
+balances : (messages : List Msg) (old new : SinkState) → AllByRecursion MessageFits messages → new.taken ≡ after old.taken (flat_map line_of (client messages).lines ++ flat_map line_of (releases (client messages).lines)) → Balances old new
 balances messages old new fit written =
     let r = screens.released messages (flat_map line_of (all_lines messages)) refl in
     record {
@@ -103,9 +104,9 @@ balances messages old new fit written =
       leaves = r.leaves;
     }
 
-by_end : (end : Status) (messages : List Msg) (old new : SinkState) → AllByRecursion FieldsFit messages → Writes injecting end messages old new → Releases end old new
+by_end : (end : Status) (messages : List Msg) (old new : SinkState) → AllByRecursion MessageFits messages → Writes injecting end messages old new → Releases end old new
 by_end status.WriteFault messages old new fit w = tt
 by_end _ messages old new fit w = balances messages old new fit w
 
 pub releases_all : (end : Status) (input input' : SourceState) (old new : SinkState) → Reads injecting end input input' old new → Releases end old new
-releases_all end input input' old new r = by_end end r.messages old new (printed_fit (counted r.read) r.verdict r.messages (front_of_all end r.messages (printed_of injecting r.verdict) r.printed)) r.writes
+releases_all end input input' old new r = by_end end r.messages old new (printed_fit (counted r.read) r.verdict r.messages (take-bytes INPUT_LIMIT r.read r.bytes) (front_of_all end r.messages (printed_of injecting r.verdict) r.printed)) r.writes

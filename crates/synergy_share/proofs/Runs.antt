@@ -1,5 +1,5 @@
 -- Running a command over what is read: where it stands before a read, and how each end follows.
-use Rattle.std.proofs.Common.{◌≡◌, ◌≢◌, ℕ, ◌+◌, ◌-◌, ◌^◌, ◌<◌, ◌≤◌, Bool, true, false, cond, Some, None, List, [], ◌∷◌, ◌++◌, length, take, Option, min, ◌⊎◌, refl, sym, ap, subst, ◌∙◌, arith, inl, inr, append_assoc}
+use Rattle.std.proofs.Common.{◌≡◌, ◌≢◌, ℕ, zero, suc, ◌+◌, ◌-◌, ◌^◌, ◌<◌, ◌≤◌, Bool, true, false, cond, Some, None, List, [], ◌∷◌, ◌++◌, length, take, Option, min, ◌⊎◌, refl, sym, ap, subst, ◌∙◌, arith, inl, inr, append_assoc}
 use Rattle.std.proofs.lemmas.List.{length-append, append-nil, length-take, take_all, take-take, take-append-le}
 use Rattle.std.specs.Option.{option_map}
 use Rattle.std.proofs.lemmas.Bool.{cases_lt}
@@ -12,8 +12,9 @@ use Rattle.share_base.specs.declared.source.SourceAnswer.TheVariants as answer
 use Rattle.share_base.specs.Writing.{SinkState, TakesFront, WritesAll}
 use Rattle.share_base.proofs.ToldLists.{after-after, after-nil, before-before, before-nil}
 use Rattle.message_codec.specs.declared.messages.Msg.{Msg}
-use Rattle.message_codec.specs.Streams.{plain}
+use Rattle.message_codec.specs.Streams.{AreBytes, plain}
 use Rattle.message_codec.specs.Verdicts.{Verdict}
+use Rattle.message_reader.proofs.Stepping.{bytes-append}
 use Rattle.message_reader.specs.Endings.{Outcome, Stopped, Failed, outcome, IsFront}
 use Rattle.client_core.specs.declared.client_end.LostCause.TheVariants as lost
 use Rattle.client_core.specs.declared.stop.Stop.{Stop}
@@ -37,6 +38,11 @@ front_of_front n k xs fits =
       | inr le ↦ take-take k n xs le ∙ ap (λ (m : ℕ). take m xs) {y = min n k} (omega arith)
     ]
 
+pub take-bytes : (n : ℕ) (xs : List ℕ) → AreBytes xs → AreBytes (take n xs)
+take-bytes zero xs small = tt
+take-bytes (suc n) [] small = tt
+take-bytes (suc n) (x ∷ xs) small = (small.0, take-bytes n xs small.1)
+
 -- the bytes that count, with the next piece
 take-piece : (limit n : ℕ) (read buffer : List ℕ) → length read ≤ limit → n ≤ length buffer → take limit (read ++ take n buffer) ≡ take limit read ++ take (min n (limit - length read)) buffer
 take-piece limit n read buffer le fits =
@@ -50,6 +56,7 @@ take-piece limit n read buffer le fits =
 -- what was read, the messages that were printed, and the lines that were written, where the core stands so for them
 pub record At (kept : List ℕ → List Msg → List ℕ → Type 0) (total : ℕ) (input input' : SourceState) (out out' : SinkState) : Type 0 where
   pub read : List ℕ
+  pub bytes : AreBytes read
   pub messages : List Msg
   pub written : List ℕ
   pub consumed : input.left ≡ before read input'.left
@@ -60,6 +67,7 @@ pub record At (kept : List ℕ → List Msg → List ℕ → Type 0) (total : �
 pub at_first : (kept : List ℕ → List Msg → List ℕ → Type 0) (input : SourceState) (out : SinkState) → kept [] [] [] → At kept 0 input input out out
 at_first kept input out k = record {
   read = [];
+  bytes = tt;
   messages = [];
   written = [];
   consumed = sym (before-nil input.left);
@@ -69,10 +77,10 @@ at_first kept input out k = record {
 }
 
 -- a read gave so many bytes, of which so many count, and the core was fed them
-pub at_fed : (kept next : List ℕ → List Msg → List ℕ → Type 0) (total n few : ℕ) (buffer : List ℕ) (input l l' : SourceState) (out o : SinkState) → (a : At kept total input l out o) → ReadsOne (answer.Got n) buffer l l' → n ≤ length buffer → total ≤ INPUT_LIMIT → few ≡ min n (INPUT_LIMIT - total)
+pub at_fed : (kept next : List ℕ → List Msg → List ℕ → Type 0) (total n few : ℕ) (buffer : List ℕ) (input l l' : SourceState) (out o : SinkState) → (a : At kept total input l out o) → ReadsOne (answer.Got n) buffer l l' → n ≤ length buffer → total ≤ INPUT_LIMIT → few ≡ min n (INPUT_LIMIT - total) → AreBytes buffer
     → ((stream : List ℕ) (messages : List Msg) (taken : List ℕ) → kept stream messages taken → (more : List Msg) × next (stream ++ take few buffer) (messages ++ more) taken)
     → At next (total + n) input l' out o
-at_fed kept next total n few buffer input l l' out o a r fits within few-is fed =
+at_fed kept next total n few buffer input l l' out o a r fits within few-is small fed =
     let piece : List ℕ = take n buffer in
     let long : length piece ≡ n = omega (arith, length-take n buffer, fits) in
     let same : min n (INPUT_LIMIT - length a.read) ≡ few = omega (arith, few-is, a.total_is) in
@@ -80,6 +88,7 @@ at_fed kept next total n few buffer input l l' out o a r fits within few-is fed 
     take-piece INPUT_LIMIT n a.read buffer (omega (arith, a.total_is, within)) fits ∙ ap (λ (m : ℕ). counted a.read ++ take m buffer) same in
     let (more, kept-next) = fed (counted a.read) a.messages a.written a.kept_is in record {
       read = a.read ++ piece;
+      bytes = bytes-append a.read piece a.bytes (take-bytes n buffer small);
       messages = a.messages ++ more;
       written = a.written;
       consumed = a.consumed ∙ ap (before a.read) r.gives ∙ before-before l'.left a.read piece;
@@ -93,6 +102,7 @@ pub at_written : (kept next : List ℕ → List Msg → List ℕ → Type 0) (to
     → ((stream : List ℕ) (messages : List Msg) (taken : List ℕ) → kept stream messages taken → next stream messages (taken ++ lines)) → At next total input l out o'
 at_written kept next total input l out o o' lines a all cleared = record {
   read = a.read;
+  bytes = a.bytes;
   messages = a.messages;
   written = a.written ++ lines;
   consumed = a.consumed;
@@ -107,7 +117,6 @@ at_written kept next total input l out o o' lines a all cleared = record {
 abbrev pub IsByBytes : Status → Type 0
 IsByBytes status.Ok = Unit {0}
 IsByBytes (status.BadFrames place why) = Unit {0}
-IsByBytes (status.NotYet place) = Unit {0}
 IsByBytes (status.Lost cause) = Unit {0}
 IsByBytes (status.Refused which) = Unit {0}
 IsByBytes _ = ⊥
@@ -115,7 +124,6 @@ IsByBytes _ = ⊥
 outcome_by_bytes : (to : Outcome Stop) → IsByBytes (status_by to)
 outcome_by_bytes (Stopped place stop.Bye) = tt
 outcome_by_bytes (Stopped place (stop.Refused why)) = tt
-outcome_by_bytes (Stopped place stop.NotYet) = tt
 outcome_by_bytes (Failed bad) = tt
 
 pub decided_by_bytes : (w : Way) (stream : List ℕ) (v : Verdict (plain w.sender) stream) (end : Status) → decided w v ≡ Some end → IsByBytes end
@@ -136,7 +144,6 @@ input_by_bytes w place [] = cases w.waits
 pub fine_by_bytes : (end : Status) → IsByBytes end → end ≢ status.WriteFault
 fine_by_bytes status.Ok by same = absurd cc
 fine_by_bytes (status.BadFrames place why) by same = absurd cc
-fine_by_bytes (status.NotYet place) by same = absurd cc
 fine_by_bytes (status.Lost cause) by same = absurd cc
 fine_by_bytes (status.Refused which) by same = absurd cc
 fine_by_bytes _ by same = by
@@ -147,7 +154,6 @@ memory_is_no_fault same = cc
 prints_all : (end : Status) (messages all : List Msg) → IsByBytes end → messages ≡ all → IsPrinted end messages all
 prints_all status.Ok messages all by same = same
 prints_all (status.BadFrames place why) messages all by same = same
-prints_all (status.NotYet place) messages all by same = same
 prints_all (status.Lost cause) messages all by same = same
 prints_all (status.Refused which) messages all by same = same
 prints_all _ messages all by same = absurd by
@@ -215,6 +221,7 @@ pub reads_write_fault : (w : Way) (kept : List ℕ → List Msg → List ℕ →
 reads_write_fault w kept lines ended fed total input l out o o' a keeps front =
     let k = keeps (counted a.read) a.messages a.written a.kept_is in record {
       read = a.read;
+      bytes = a.bytes;
       consumed = a.consumed;
       verdict = k.prints.verdict;
       ending = write_fault refl;
@@ -232,12 +239,13 @@ reads_write_fault w kept lines ended fed total input l out o o' a keeps front =
     printed_part (Some x) h = ([], sym h.1 ∙ sym (append-nil a.messages))
 
 -- all was written before the end; then come the last lines
-pub reads_finished : (w : Way) (end result : Status) (read : List ℕ) (messages : List Msg) (written : List ℕ) (input l : SourceState) (out o o' : SinkState) → input.left ≡ before read l.left → (v : VerdictOn w read) → EndsAt w end read v l → IsPrinted end messages (printed_of w v) → written ≡ w.text messages → o.taken ≡ after out.taken written
+pub reads_finished : (w : Way) (end result : Status) (read : List ℕ) (messages : List Msg) (written : List ℕ) (input l : SourceState) (out o o' : SinkState) → AreBytes read → input.left ≡ before read l.left → (v : VerdictOn w read) → EndsAt w end read v l → IsPrinted end messages (printed_of w v) → written ≡ w.text messages → o.taken ≡ after out.taken written
     → (end ≢ status.WriteFault) → Finishes w end result messages o o' → Reads w result input l out o'
-reads_finished w end result read messages written input l out o o' consumed v ending printed all taken fine finishes =
+reads_finished w end result read messages written input l out o o' small consumed v ending printed all taken fine finishes =
     elim finishes [
       | inl whole ↦ subst (λ (e : Status). Reads w e input l out o') (sym whole.0) (record {
         read = read;
+        bytes = small;
         consumed = consumed;
         verdict = v;
         ending = ending;
@@ -247,6 +255,7 @@ reads_finished w end result read messages written input l out o o' consumed v en
       })
       | inr failed ↦ subst (λ (e : Status). Reads w e input l out o') (sym failed.0) (record {
         read = read;
+        bytes = small;
         consumed = consumed;
         verdict = v;
         ending = write_fault refl;
@@ -275,7 +284,7 @@ finished_open w kept end result lines ended fed total input l l' out o o' a keep
     let k = keeps (counted a.read) a.messages a.written a.kept_is in
     let v : VerdictOn w a.read = k.prints.verdict in
     let goes = goes_on w (counted a.read) ended v a.messages none k.prints.ended in
-    reads_finished w end result a.read a.messages a.written input l' out o o' (a.consumed ∙ ap (before a.read) (sym same)) v (ends v goes.0) (prints a.messages (printed_of w v) goes.1)
+    reads_finished w end result a.read a.messages a.written input l' out o o' a.bytes (a.consumed ∙ ap (before a.read) (sym same)) v (ends v goes.0) (prints a.messages (printed_of w v) goes.1)
     (all_written w lines ended fed (counted a.read) a.messages a.written k empty) a.taken_is fine (finishes (counted a.read) a.messages a.written a.kept_is)
 
 -- where the input ends
@@ -287,7 +296,7 @@ finished_end w kept end result lines ended fed total buffer input l l' out o o' 
     let e = here (counted a.read) a.messages a.written a.kept_is in
     let by : IsByBytes end = subst IsByBytes (sym e.end_is) (input_by_bytes w e.verdict.place e.verdict.rest) in
     let at : AtEnd a.read l' = record { none_left = subst NoneLeft (sym r.gives.1) r.gives.0; answered = answered l.ended l'.ended r.ends; within = omega (arith, a.total_is) } in
-    reads_finished w end result a.read a.messages a.written input l' out o o' (a.consumed ∙ ap (before a.read) (sym r.gives.1)) e.verdict (at_the_end e.undecided e.end_is at) (prints_all end a.messages (printed_of w e.verdict) by e.printed)
+    reads_finished w end result a.read a.messages a.written input l' out o o' a.bytes (a.consumed ∙ ap (before a.read) (sym r.gives.1)) e.verdict (at_the_end e.undecided e.end_is at) (prints_all end a.messages (printed_of w e.verdict) by e.printed)
     (all_written w lines ended fed (counted a.read) a.messages a.written k empty) a.taken_is (fine_by_bytes end by) (finishes (counted a.read) a.messages a.written a.kept_is)
   where
     answered : (e e' : Option Bool) → ReadEnds answer.End e e' → IsSet e'
@@ -305,10 +314,10 @@ finished_stop w kept end result lines ended fed total input l out o o' a keeps e
     elim (has_ended w (counted a.read) ended end v a.messages is k.prints.ended) [
       | inl so ↦
           let by : IsByBytes end = decided_by_bytes w (counted a.read) v end so.0 in
-          reads_finished w end result a.read a.messages a.written input l out o o' a.consumed v (by_bytes so.0) (prints_all end a.messages (printed_of w v) by so.1) all a.taken_is (fine_by_bytes end by) last
+          reads_finished w end result a.read a.messages a.written input l out o o' a.bytes a.consumed v (by_bytes so.0) (prints_all end a.messages (printed_of w v) by so.1) all a.taken_is (fine_by_bytes end by) last
       | inr out_of ↦
           let P : Status → Type 0 = λ e. IsPrinted e a.messages (printed_of w v) in
-          reads_finished w end result a.read a.messages a.written input l out o o' a.consumed v (no_memory out_of.0) (subst P (sym out_of.0) out_of.1) all a.taken_is (λ same. memory_is_no_fault (sym out_of.0 ∙ same)) last
+          reads_finished w end result a.read a.messages a.written input l out o o' a.bytes a.consumed v (no_memory out_of.0) (subst P (sym out_of.0) out_of.1) all a.taken_is (λ same. memory_is_no_fault (sym out_of.0 ∙ same)) last
     ]
 
 -- ---- the counts
@@ -333,7 +342,6 @@ causes_finished w end result messages input input' out o o' counts same fine fin
 source_by_bytes : (end : Status) (source source' : ℕ) → IsByBytes end → source' ≡ source → SourceCounts end source source'
 source_by_bytes status.Ok source source' by same = same
 source_by_bytes (status.BadFrames place why) source source' by same = same
-source_by_bytes (status.NotYet place) source source' by same = same
 source_by_bytes (status.Lost cause) source source' by same = same
 source_by_bytes (status.Refused which) source source' by same = same
 source_by_bytes _ source source' by same = absurd by

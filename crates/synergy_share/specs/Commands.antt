@@ -10,7 +10,7 @@ use Rattle.share_base.specs.Told.{before, after, NoneLeft, IsSet, NotSet}
 use Rattle.share_base.specs.Reading.{SourceState}
 use Rattle.share_base.specs.Writing.{SinkState, TakesFront}
 use Rattle.message_codec.specs.declared.messages.Msg.{Msg}
-use Rattle.message_codec.specs.Streams.{plain}
+use Rattle.message_codec.specs.Streams.{AreBytes, plain}
 use Rattle.message_codec.specs.Verdicts.{Verdict}
 use Rattle.message_reader.specs.Endings.{IsFront}
 use Rattle.synergy_share.specs.declared.commands.TheConstants.{INPUT_LIMIT}
@@ -74,6 +74,7 @@ Writes w end messages old new = new.taken ≡ after old.taken (all_lines w messa
 pub record Reads (w : Way) (end : Status) (input input' : SourceState) (out out' : SinkState)
     : Type 0 where
   pub read : List ℕ
+  pub bytes : AreBytes read
   pub consumed : input.left ≡ before read input'.left
   pub verdict : VerdictOn w read
   pub ending : EndsAt w end read verdict input'

@@ -20,7 +20,6 @@ abbrev pub status_of : ClientEnd → Status
 status_of end.Bye = status.Ok
 status_of (end.Refused which) = status.Refused which
 status_of (end.BadPeer place why) = status.BadFrames place why
-status_of (end.NotYet place) = status.NotYet place
 status_of (end.Lost cause) = status.Lost cause
 status_of end.TurnsSpent = status.TurnsSpent
 status_of end.LinkFault = status.LinkFault
@@ -33,7 +32,6 @@ abbrev pub client_end_of : Status → ClientEnd
 client_end_of status.Ok = end.Bye
 client_end_of (status.Refused which) = end.Refused which
 client_end_of (status.BadFrames place why) = end.BadPeer place why
-client_end_of (status.NotYet place) = end.NotYet place
 client_end_of (status.Lost cause) = end.Lost cause
 client_end_of status.TurnsSpent = end.TurnsSpent
 client_end_of status.LinkFault = end.LinkFault

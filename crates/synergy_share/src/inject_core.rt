@@ -16,7 +16,6 @@ fn status(end: ClientEnd) -> Status
         ClientEnd::Bye => Status::Ok,
         ClientEnd::Refused(which) => Status::Refused(which),
         ClientEnd::BadPeer { place, reason } => Status::BadFrames { place, reason },
-        ClientEnd::NotYet { place } => Status::NotYet { place },
         ClientEnd::Lost(cause) => Status::Lost(cause),
         ClientEnd::TurnsSpent => Status::TurnsSpent,
         ClientEnd::LinkFault => Status::LinkFault,
@@ -33,15 +32,19 @@ fn client_end(end: Status) -> ClientEnd
         Status::Ok => ClientEnd::Bye,
         Status::Refused(which) => ClientEnd::Refused(which),
         Status::BadFrames { place, reason } => ClientEnd::BadPeer { place, reason },
-        Status::NotYet { place } => ClientEnd::NotYet { place },
         Status::Lost(cause) => ClientEnd::Lost(cause),
         Status::TurnsSpent => ClientEnd::TurnsSpent,
         Status::LinkFault => ClientEnd::LinkFault,
         Status::WriteFault => ClientEnd::WriteFault,
         Status::OutOfMemory => ClientEnd::OutOfMemory,
-        Status::BadConfig { .. } | Status::InputTooLong | Status::Usage | Status::ReadFault => {
-            ClientEnd::Lost(LostCause::Ended)
-        }
+        Status::BadConfig { .. }
+        | Status::BadScript { .. }
+        | Status::BadTrace { .. }
+        | Status::InputTooLong
+        | Status::Usage
+        | Status::ReadFault
+        | Status::HubFault
+        | Status::BadPeer { .. } => ClientEnd::Lost(LostCause::Ended),
     }
 }
 

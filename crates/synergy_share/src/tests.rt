@@ -73,7 +73,7 @@ fn injection_ends_as_its_server_does(rt: HostRuntime) {
             parts: &[&ENTER, &CLIPBOARD],
             failing: &[],
             lines: b"enter 0 384 1 0\n",
-            status: Status::NotYet { place: 18 },
+            status: Status::Lost(LostCause::Ended),
         },
         Row {
             shows: None,
@@ -291,9 +291,6 @@ fn statuses_have_a_code_and_a_line(rt: HostRuntime) {
     };
     assert_eq!(rt; bad.code(), 1);
     assert_eq!(rt; bad.report().as_slice(), b"frames 22 toolong\n".as_slice());
-    let held = Status::NotYet { place: 18 };
-    assert_eq!(rt; held.code(), 10);
-    assert_eq!(rt; held.report().as_slice(), b"not yet 18\n".as_slice());
     let lost = Status::Lost(LostCause::Ended);
     assert_eq!(rt; lost.code(), 9);
     assert_eq!(rt; lost.report().as_slice(), b"lost ended\n".as_slice());

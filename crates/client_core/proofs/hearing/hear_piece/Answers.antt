@@ -30,13 +30,13 @@ returns-in-Bad-clause-takes c =
 pub returns-in_err-end-in-Message-clause-takes : goal.returns-in_err-end-in-Message-clause-takes
 returns-in_err-end-in-Message-clause-takes c =
     let l = c.loop-place in
-    takes_broken_at c.args.reader.now l.reader c.next.new.self c.args.hearer.now l.hearer c.heed.new.hearer c.from_residual-in_err-end-in-Message.result c.args.piece.now c.in-Message.place c.in-Message.msg c.from_residual-in_err-end-in-Message.ensures.0
+    takes_broken_at c.args.reader.now l.reader c.next.new.self c.args.hearer.now l.hearer c.heed.new.hearer c.from_residual-in_err-end-in-Message.result c.args.piece.now _ c.in-Message.msg c.from_residual-in_err-end-in-Message.ensures.0
     (rw c.in-Message.is at c.in_ok-next.ensures.gives) c.in_err-end-in-Message.ensures.heeds l.invariant.hears
 
 pub returns-in-Some-clause-takes : goal.returns-in-Some-clause-takes
 returns-in-Some-clause-takes c =
     let l = c.loop-place in
-    takes_stop c.args.reader.now l.reader c.next.new.self c.args.hearer.now l.hearer c.heed.new.hearer c.in-Some.end c.args.piece.now c.in-Message.place c.in-Message.msg
+    takes_stop c.args.reader.now l.reader c.next.new.self c.args.hearer.now l.hearer c.heed.new.hearer c.in-Some.end c.args.piece.now _ c.in-Message.msg
     (rw c.in-Message.is at c.in_ok-next.ensures.gives) (rw c.in-Some.is at c.in_ok-end-in-Message.ensures.heeds) l.invariant.hears
 
 pub loop-place-preserved : goal.loop-place-preserved
@@ -44,6 +44,6 @@ loop-place-preserved c =
     let l = c.loop-place in
     let gives = rw c.in-Message.is at c.in_ok-next.ensures.gives in record {
       role = gives.role ∙ l.invariant.role;
-      hears = hearing_one c.args.reader.now l.reader c.next.new.self c.args.hearer.now l.hearer c.heed.new.hearer c.args.piece.now c.in-Message.place c.in-Message.msg l.invariant.hears gives (rw c.in_default.is at c.in_ok-end-in-Message.ensures.heeds);
+      hears = hearing_one c.args.reader.now l.reader c.next.new.self c.args.hearer.now l.hearer c.heed.new.hearer c.args.piece.now _ c.in-Message.msg l.invariant.hears gives (rw c.in_default.is at c.in_ok-end-in-Message.ensures.heeds);
       total = let t = l.invariant.total in omega (arith, c.in_ok-next.ensures.total);
     }

@@ -2,6 +2,7 @@ use Rattle.std.proofs.Common.{◌≡◌, ◌+◌, ℕ, List, refl, sym, subst, �
 use Rattle.share_base.specs.Told.{NotSet, after as after_bytes}
 use Rattle.share_base.specs.Writing.{TakesFront}
 use Rattle.message_codec.specs.declared.messages.Msg.{Msg}
+use Rattle.message_reader.proofs.Stepping.{all_bytes}
 use Rattle.synergy_share.specs.declared.status.Status.TheVariants as status
 use Rattle.synergy_share.specs.Commands.{read_fault, too_long}
 use Rattle.synergy_share.proofs.Runs.{at_first, at_fed, at_written, feed_fits, stops_here, reads_write_fault, finished_open, finished_end, finished_stop, causes_end, causes_stop}
@@ -93,7 +94,7 @@ returns-then-not-write_all-clause-reads g c =
     let out = g.K.Sink.state c.args.out.now in
     let w = core.way c.args.core in
     let after = c.feed.new.self in
-    let fed = at_fed (core.kept l.core w) (core.kept after w) l.total c.in-Got.n c.min-counted.result c.read.new.buf input (g.S.Source.state l.input) (g.S.Source.state c.read.new.self) out (g.K.Sink.state l.out) l.invariant.at c.in-Got.ensures.reads (omega (arith, c.in-Got.ensures.fits, c.read.auto.buf)) c.loop-total-test.true c.min-counted.ensures (c.feed.ensures w) in
+    let fed = at_fed (core.kept l.core w) (core.kept after w) l.total c.in-Got.n c.min-counted.result c.read.new.buf input (g.S.Source.state l.input) (g.S.Source.state c.read.new.self) out (g.K.Sink.state l.out) l.invariant.at c.in-Got.ensures.reads (omega (arith, c.in-Got.ensures.fits, c.read.auto.buf)) c.loop-total-test.true c.min-counted.ensures (all_bytes c.read.new.buf (λ i. omega (arith, c.type_inv.buffer i))) (c.feed.ensures w) in
     let keeps = λ (stream : List ℕ) (messages : List Msg) (taken : List ℕ). g.met.C.LineCore.keeps after w stream messages taken in
     reads_write_fault w (core.kept after w) (core.lines after) (core.done after) (core.total after) (l.total + c.in-Got.n) input (g.S.Source.state c.read.new.self) out (g.K.Sink.state l.out) (g.K.Sink.state c.write_all.new.out) fed keeps
     (subst (λ (t : List ℕ). TakesFront t (g.K.Sink.state l.out).taken (g.K.Sink.state c.write_all.new.out).taken) c.printed.ensures c.if-not-write_all.ensures.taken)
@@ -116,7 +117,7 @@ returns-in-Some-clause-reads g c =
     let out = g.K.Sink.state c.args.out.now in
     let w = core.way c.args.core in
     let after = c.feed.new.self in
-    let fed = at_fed (core.kept l.core w) (core.kept after w) l.total c.in-Got.n c.min-counted.result c.read.new.buf input (g.S.Source.state l.input) (g.S.Source.state c.read.new.self) out (g.K.Sink.state l.out) l.invariant.at c.in-Got.ensures.reads (omega (arith, c.in-Got.ensures.fits, c.read.auto.buf)) c.loop-total-test.true c.min-counted.ensures (c.feed.ensures w) in
+    let fed = at_fed (core.kept l.core w) (core.kept after w) l.total c.in-Got.n c.min-counted.result c.read.new.buf input (g.S.Source.state l.input) (g.S.Source.state c.read.new.self) out (g.K.Sink.state l.out) l.invariant.at c.in-Got.ensures.reads (omega (arith, c.in-Got.ensures.fits, c.read.auto.buf)) c.loop-total-test.true c.min-counted.ensures (all_bytes c.read.new.buf (λ i. omega (arith, c.type_inv.buffer i))) (c.feed.ensures w) in
     let written = at_written (core.kept after w) (core.kept c.clear_printed.new.self w) (l.total + c.in-Got.n) input (g.S.Source.state c.read.new.self) out (g.K.Sink.state l.out) (g.K.Sink.state c.write_all.new.out) (core.lines after) fed
     (subst (λ (t : List ℕ). (g.K.Sink.state c.write_all.new.out).taken ≡ after_bytes (g.K.Sink.state l.out).taken t) c.printed.ensures c.if-not-write_all.ensures.taken) (c.clear_printed.ensures.clears w) in
     let cleared = c.clear_printed.new.self in
@@ -141,7 +142,7 @@ returns-in-Some-clause-causes g c =
     let out = g.K.Sink.state c.args.out.now in
     let w = core.way c.args.core in
     let after = c.feed.new.self in
-    let fed = at_fed (core.kept l.core w) (core.kept after w) l.total c.in-Got.n c.min-counted.result c.read.new.buf input (g.S.Source.state l.input) (g.S.Source.state c.read.new.self) out (g.K.Sink.state l.out) l.invariant.at c.in-Got.ensures.reads (omega (arith, c.in-Got.ensures.fits, c.read.auto.buf)) c.loop-total-test.true c.min-counted.ensures (c.feed.ensures w) in
+    let fed = at_fed (core.kept l.core w) (core.kept after w) l.total c.in-Got.n c.min-counted.result c.read.new.buf input (g.S.Source.state l.input) (g.S.Source.state c.read.new.self) out (g.K.Sink.state l.out) l.invariant.at c.in-Got.ensures.reads (omega (arith, c.in-Got.ensures.fits, c.read.auto.buf)) c.loop-total-test.true c.min-counted.ensures (all_bytes c.read.new.buf (λ i. omega (arith, c.type_inv.buffer i))) (c.feed.ensures w) in
     let written = at_written (core.kept after w) (core.kept c.clear_printed.new.self w) (l.total + c.in-Got.n) input (g.S.Source.state c.read.new.self) out (g.K.Sink.state l.out) (g.K.Sink.state c.write_all.new.out) (core.lines after) fed
     (subst (λ (t : List ℕ). (g.K.Sink.state c.write_all.new.out).taken ≡ after_bytes (g.K.Sink.state l.out).taken t) c.printed.ensures c.if-not-write_all.ensures.taken) (c.clear_printed.ensures.clears w) in
     let cleared = c.clear_printed.new.self in
@@ -157,7 +158,7 @@ loop-total-preserved g c =
     let out = g.K.Sink.state c.args.out.now in
     let w = core.way c.args.core in
     let after = c.feed.new.self in
-    let fed = at_fed (core.kept l.core w) (core.kept after w) l.total c.in-Got.n c.min-counted.result c.read.new.buf input (g.S.Source.state l.input) (g.S.Source.state c.read.new.self) out (g.K.Sink.state l.out) l.invariant.at c.in-Got.ensures.reads (omega (arith, c.in-Got.ensures.fits, c.read.auto.buf)) c.loop-total-test.true c.min-counted.ensures (c.feed.ensures w) in
+    let fed = at_fed (core.kept l.core w) (core.kept after w) l.total c.in-Got.n c.min-counted.result c.read.new.buf input (g.S.Source.state l.input) (g.S.Source.state c.read.new.self) out (g.K.Sink.state l.out) l.invariant.at c.in-Got.ensures.reads (omega (arith, c.in-Got.ensures.fits, c.read.auto.buf)) c.loop-total-test.true c.min-counted.ensures (all_bytes c.read.new.buf (λ i. omega (arith, c.type_inv.buffer i))) (c.feed.ensures w) in
     let written = at_written (core.kept after w) (core.kept c.clear_printed.new.self w) (l.total + c.in-Got.n) input (g.S.Source.state c.read.new.self) out (g.K.Sink.state l.out) (g.K.Sink.state c.write_all.new.out) (core.lines after) fed
     (subst (λ (t : List ℕ). (g.K.Sink.state c.write_all.new.out).taken ≡ after_bytes (g.K.Sink.state l.out).taken t) c.printed.ensures c.if-not-write_all.ensures.taken) (c.clear_printed.ensures.clears w) in
     let keeps = λ (stream : List ℕ) (messages : List Msg) (taken : List ℕ). g.met.C.LineCore.keeps l.core w stream messages taken in

@@ -1,5 +1,5 @@
-use Rattle.client_core.proofs.Screens.{shows-applied}
+use Rattle.client_core.proofs.Screens.{turns-roomy}
 use Rattle.client_core.proofs.printer.Printer.apply.Goals as goal
 
 pub returns-clause-ok : goal.returns-clause-ok
-returns-clause-ok c = shows-applied c.args.self.now (record { injector = c.apply_to.new.self; lines = c.apply_to.new.lines }) _ _ c.reserve.ensures.items c.apply_to.ensures.prints
+returns-clause-ok c = turns-roomy _ c.args.self.now c.make_room.new.self c.apply_in_room.new.self c.make_room.ensures.same c.apply_in_room.ensures
