@@ -23,7 +23,6 @@ pub mod Received
 pub mod Taken
 pub mod Closed
 pub mod Judged
-pub mod JoinedScreens
 pub mod Indexed
 pub mod Known
 pub mod Added
@@ -33,7 +32,6 @@ pub mod TellOthers
 pub mod Options
 pub mod Dispatch
 pub mod Steady
-pub mod Indexed
 pub mod ScriptLines
 pub mod ScriptTurns
 pub mod Goodbyes
@@ -41,7 +39,5 @@ pub mod ToldJoined
 pub mod Copies
 pub mod NextLine
 pub mod Sleeping
-pub mod Passed
-pub mod JoinedScreens
 pub mod ActedAll
 pub mod Same

@@ -20,5 +20,3 @@ pub mod Hearing
 pub mod Telling
 pub mod NextLine
 pub mod Goodbyes
-pub mod Around
-pub mod Passing
