@@ -1,10 +1,11 @@
 -- Clients that are told a message one after another, without one of them.
-use Rattle.std.specs.Prelude.{◌≡◌, refl, ℕ, zero, suc, ◌+◌, ◌==◌, Bool, true, false, not, ◌||◌, cond, List, [], ◌∷◌, ◌++◌, length, take, filter, slice_get, Option, Some, None}
+use Rattle.std.specs.Prelude.{◌≡◌, refl, ℕ, zero, suc, ◌+◌, ◌<◌, ◌≤◌, ◌==◌, Bool, true, false, not, ◌||◌, cond, get_or, List, [], ◌∷◌, ◌++◌, length, take, filter, slice_get, Option, Some, None}
 use Rattle.std.specs.List.{list_any, filter_map, cons_option}
 use Rattle.std.specs.Option.{option_map, option_to_list}
 use Rattle.std.proofs.Common.{arith, sym, ap, ◌∙◌, subst}
 use Rattle.std.proofs.lemmas.Bool.{eqb-true, false_from_ne_true}
 use Rattle.std.proofs.lemmas.List.{take_all}
+use Rattle.std.proofs.lemmas.Option.{slice_get_read, slice_get_past}
 use Rattle.message_codec.specs.declared.messages.Msg.{Msg}
 use Rattle.hello_states.specs.Phases.{joined_screen}
 use Rattle.machine.specs.Targets.{Target, Primary, Client, Own}
@@ -123,3 +124,11 @@ others-all old now n i m e so_far = λ b s h.
 
 pub all-told : (old now new : ServerCore) (n : ℕ) (m : Msg) → LeadsWhere (λ s. IsThere s Primary) old now (route Own Primary m) → Leads now new (λ s. route_all Own (others_among n s.connections) m s) → Leads old new (λ s. route_all Own (all_but n s) m s)
 all-told old now new n m first rest = λ b s h. rest b (route Own Primary m s) (first b s tt h)
+
+-- ---- what a slice gives at an index
+
+pub got-none : {X : Type 0} (xs ys : List X) (i : ℕ) → length xs ≤ i → xs ≡ ys → None ≡ slice_get ys i
+got-none xs ys i le e = sym (slice_get_past xs i le) ∙ ap (λ zs. slice_get zs i) e
+
+pub got-some : {X : Type 0} (xs ys : List X) (i : ℕ) (x : X) → i < length xs → x ≡ get_or xs i x → xs ≡ ys → Some x ≡ slice_get ys i
+got-some xs ys i x lt at e = sym (slice_get_read xs (length xs) i x refl lt at) ∙ ap (λ zs. slice_get zs i) e
