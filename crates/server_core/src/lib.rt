@@ -13,6 +13,7 @@ mod events;
 mod log_lines;
 mod partings;
 mod primary;
+mod reading;
 mod routes;
 mod routing;
 mod running;
