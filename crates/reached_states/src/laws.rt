@@ -1,10 +1,13 @@
 //! What holds of every state that the machine reaches.
 
+ghost use Rattle.reached_states.specs.ActiveScreens.{ActiveIsJoined};
 ghost use Rattle.reached_states.specs.Dropped.{LiveKeepBytes};
 ghost use Rattle.reached_states.specs.FewOpen.{FewAreOpen};
 ghost use Rattle.reached_states.specs.Growing.{LogGrows};
 ghost use Rattle.reached_states.specs.NewSerials.{NewIsUntold};
-ghost use Rattle.reached_states.specs.OpenSerials.{ClosingIsOpen, OpenAfter, SerialsRise, TakenIsQueued};
+ghost use Rattle.reached_states.specs.OpenSerials.{
+    ClosingIsOpen, OpenAfter, SerialsRise, TakenIsQueued, UntakenIsBounded,
+};
 ghost use Rattle.reached_states.specs.Promises.{AllQueuedWhereReached, HeldWhereReached, OneForOneWhereReached};
 ghost use Rattle.reached_states.specs.Reaching.{GoesOn};
 
@@ -44,10 +47,20 @@ pub fn taken_is_queued()
     ensures { TakenIsQueued }
 {}
 
+/// At most 16,777,216 bytes of an open connection's queue are untaken.
+pub fn untaken_is_bounded()
+    ensures { UntakenIsBounded }
+{}
+
 /// At most 64 connections are open that don't part as one too many, and at most 64 in all where none is
 /// to be closed.
 pub fn few_are_open()
     ensures { FewAreOpen }
+{}
+
+/// The active screen's connection, where it is open, is joined, and never is the one to be closed.
+pub fn active_is_joined()
+    ensures { ActiveIsJoined }
 {}
 
 /// A connection that lives has no bytes dropped.
