@@ -91,7 +91,7 @@ before-bytes (x ∷ xs) ys all = (all.0, before-bytes xs ys all.1)
 body-bytes : (m : Msg) → AreBytes (body_of m) → HasBytes m
 body-bytes (msg.ClipPart clip seq mark bytes) all =
     let tail = after-bytes (to_be_bytes w32 (length bytes)) (bytes ++ []) (after-bytes (mark_number mark ∷ []) (to_be_bytes w32 (length bytes) ++ bytes ++ [])
-        (after-bytes (to_be_bytes w32 seq) ((mark_number mark ∷ []) ++ to_be_bytes w32 (length bytes) ++ bytes ++ []) (after-bytes (codes "DCLP" ++ clip_number clip ∷ []) (to_be_bytes w32 seq ++ (mark_number mark ∷ []) ++ to_be_bytes w32 (length bytes) ++ bytes ++ []) all))) in
+    (after-bytes (to_be_bytes w32 seq) ((mark_number mark ∷ []) ++ to_be_bytes w32 (length bytes) ++ bytes ++ []) (after-bytes (codes "DCLP" ++ clip_number clip ∷ []) (to_be_bytes w32 seq ++ (mark_number mark ∷ []) ++ to_be_bytes w32 (length bytes) ++ bytes ++ []) all))) in
     before-bytes bytes [] tail
 body-bytes _ all = tt
 
