@@ -54,11 +54,11 @@ open-bytes limit (p ∷ older) all = run-bytes limit p.mark p.seq p.bytes (open_
 
 clip-bytes : (clip : ClipId) (parts : List Part) → ArePartBytes parts → ArePartBytes (of_clip clip parts)
 clip-bytes clip [] all = tt
-clip-bytes clip (p ∷ ps) all = by (same_clip clip p.clip)
+clip-bytes clip (p ∷ ps) all = by (same_clip clip p.clip) (clip-bytes clip ps all.1)
   where
-    by : (b : Bool) → ArePartBytes (cond b (p ∷ of_clip clip ps) (of_clip clip ps))
-    by true = (all.0, clip-bytes clip ps all.1)
-    by false = clip-bytes clip ps all.1
+    by : (b : Bool) → ArePartBytes (of_clip clip ps) → ArePartBytes (cond b (p ∷ of_clip clip ps) (of_clip clip ps))
+    by true more = (all.0, more)
+    by false more = more
 
 closed-bytes : (seq : ℕ) (r : Option Run) → IsRunOfBytes r → IfSome (closes seq r) AreBytes
 closed-bytes seq None h = tt
@@ -90,9 +90,9 @@ before-bytes (x ∷ xs) ys all = (all.0, before-bytes xs ys all.1)
 
 body-bytes : (m : Msg) → AreBytes (body_of m) → HasBytes m
 body-bytes (msg.ClipPart clip seq mark bytes) all =
-    let data = after-bytes (to_be_bytes w32 (length bytes)) (bytes ++ []) (after-bytes (mark_number mark ∷ []) (to_be_bytes w32 (length bytes) ++ bytes ++ [])
-        (after-bytes (to_be_bytes w32 seq) ((mark_number mark ∷ []) ++ to_be_bytes w32 (length bytes) ++ bytes ++ []) (after-bytes (codes "DCLP" ++ clip_number clip ∷ []) (to_be_bytes w32 seq ++ (mark_number mark ∷ []) ++ to_be_bytes w32 (length bytes) ++ bytes ++ []) all))) in
-    before-bytes bytes [] data
+    let tail = after-bytes (to_be_bytes w32 (length bytes)) (bytes ++ []) (after-bytes (mark_number mark ∷ []) (to_be_bytes w32 (length bytes) ++ bytes ++ [])
+    (after-bytes (to_be_bytes w32 seq) ((mark_number mark ∷ []) ++ to_be_bytes w32 (length bytes) ++ bytes ++ []) (after-bytes (codes "DCLP" ++ clip_number clip ∷ []) (to_be_bytes w32 seq ++ (mark_number mark ∷ []) ++ to_be_bytes w32 (length bytes) ++ bytes ++ []) all))) in
+    before-bytes bytes [] tail
 body-bytes _ all = tt
 
 -- messages of a stream of bytes

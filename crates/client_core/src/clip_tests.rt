@@ -36,7 +36,13 @@ const STREAMS: [(&[u8], &[u8]); 5] = [
 ];
 
 // The stream in two pieces.
-fn prints(rt: &impl Abort, alloc: Global, stream: &[u8], lines: &[u8], cut: usize) -> Result<(), OutOfMemory>
+fn prints(
+    rt: &impl Abort,
+    alloc: Global,
+    stream: &[u8],
+    lines: &[u8],
+    cut: usize,
+) -> Result<(), OutOfMemory>
     requires cut { cut ≤ length stream.now }
     requires short { length stream.now < 2 ^ 62 }
 {

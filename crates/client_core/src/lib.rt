@@ -9,9 +9,9 @@
 
 mod client;
 mod client_end;
-mod clipboards;
 #[cfg(test)]
 mod clip_tests;
+mod clipboards;
 mod hearer;
 mod hearing;
 mod laws;

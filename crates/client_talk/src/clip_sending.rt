@@ -67,12 +67,7 @@ fn queue_chunks(
 
 // Queues the messages of a clipboard: a start that says how many bytes there are, the bytes in chunks,
 // and an end. On `OutOfMemory` some are queued.
-fn queue_clip(
-    outbox: &mut Outbox,
-    clip: ClipId,
-    seq: u32,
-    bytes: &[u8],
-) -> Result<(), OutOfMemory>
+fn queue_clip(outbox: &mut Outbox, clip: ClipId, seq: u32, bytes: &[u8]) -> Result<(), OutOfMemory>
     ensures ok { OnOk result (outbox.new ≡ queued_all (clip_messages clip seq bytes.now) outbox.old) }
     ensures begins { Begins outbox.old outbox.new }
 {

@@ -15,6 +15,7 @@ ghost use Rattle.client_talk.specs.Scripts.{run_script, does, past_one, resized,
 
 use crate::clip_sending::queue_copies;
 use crate::copies::Copies;
+use crate::messages::{hello_back, information};
 use crate::options::rate_after;
 use crate::outbox::Outbox;
 use crate::version::{MAJOR, MINOR};
@@ -73,35 +74,6 @@ impl Model for Conversation {
     } };
 
     ghost invariant = { λ c. c.at ≤ last_moment };
-}
-
-/// The information of a screen of that size.
-fn information(w: u16, h: u16) -> Msg
-    ensures { result ≡ answer_spec.information w h }
-{
-    Msg::Info {
-        x: 0,
-        y: 0,
-        w,
-        h,
-        warp: 0,
-        mx: (w / 2) as i16,
-        my: (h / 2) as i16,
-    }
-}
-
-// The client's answer to a hello.
-fn hello_back(alloc: Global, name: &ScreenName) -> Result<Msg, OutOfMemory>
-    ensures value { IfOk result (λ m. m ≡ message.HelloBack MAJOR MINOR name.now) }
-    ensures short { IfOk result (λ m. length (body_of m) ≤ BODY_LIMIT) }
-{
-    let mut bytes = Octets::new(alloc);
-    bytes.extend(name.as_slice())?;
-    Ok(Msg::HelloBack {
-        major: MAJOR,
-        minor: MINOR,
-        name: bytes,
-    })
 }
 
 // The index of the line after that one, if there is such a line.

@@ -10,6 +10,7 @@
 mod clip_sending;
 mod conversation;
 mod copies;
+mod messages;
 mod options;
 mod outbox;
 #[cfg(test)]

@@ -1,6 +1,6 @@
 //! Putting the parts of a clipboard together.
 
-ghost use Rattle.std.specs.Prelude.{◌≡◌, ◌≤◌, [], None, IfOk, OnOk, OnErr, length};
+ghost use Rattle.std.specs.Prelude.{◌≡◌, ◌≤◌, ◌<◌, ◌^◌, [], None, IfOk, OnOk, OnErr, length};
 ghost use Rattle.share_base.specs.declared.clip_id.ClipId.{ClipId as Clip};
 ghost use Rattle.message_codec.specs.declared.clip_mark.ClipMark.TheVariants as mark;
 ghost use Rattle.clip_chunks.specs.Assemblies.{AssemblyParts, HoldsLittle, IsAnswer, Keeps};
@@ -70,9 +70,11 @@ impl Assembly {
     pub fn len(&self) -> usize
         ensures value { result ≡ length (bytes_so_far self.now.run) }
         ensures bound { result ≤ self.now.limit }
+        ensures fits { result < 2 ^ 32 }
     {
         match &self.run {
-            Some(run) => run.bytes.len(),
+            // There are never more than the limit, which says that they fit 32 bits.
+            Some(run) => run.bytes.len().min(self.limit as usize),
             None => 0,
         }
     }
