@@ -1,9 +1,9 @@
 -- Who is closed in a turn had its bytes dropped, or its time is over, or it has taken all; and where a run has quit, all
 -- were closed so.
-use Rattle.std.specs.Prelude.{◌≡◌, refl, ℕ, ◌+◌, ◌≤◌, Bool, true, false, not, ◌&&◌, ◌||◌, ◌==◌, nat_le, ◌⊎◌, List, [], ◌∷◌, ◌++◌, length, take, Option, Some, None}
+use Rattle.std.specs.Prelude.{◌≡◌, refl, ℕ, ◌+◌, ◌≤◌, Bool, true, false, not, ◌&&◌, ◌||◌, ◌==◌, nat_le, ◌⊎◌, List, ◌∷◌, length, Option, Some, None}
 use Rattle.std.specs.List.{find}
 use Rattle.std.specs.Option.{option_map}
-use Rattle.std.proofs.Common.{arith, ap, sym, subst, ◌∙◌, inl, inr}
+use Rattle.std.proofs.Common.{arith, sym, subst, ◌∙◌, inl, inr}
 use Rattle.std.proofs.lemmas.Bool.Decides.{nat_tests}
 use Rattle.std.proofs.lemmas.List.{take_all}
 use Rattle.share_base.specs.Fronts.{IsFront}
@@ -25,7 +25,7 @@ use Rattle.attentive_acts.specs.Judging.{Judge, AllowsAt, judged, first_judge}
 use Rattle.attentive_acts.specs.Laws.{taken_bytes}
 use Rattle.attentive_acts.specs.Offered.{is_time_over, AllTakenAtClosings}
 use Rattle.attentive_acts.proofs.SingleActs.{follows-at, follows-front}
-use Rattle.attentive_acts.proofs.TakenPrefixes.{Holds, holds-after}
+use Rattle.attentive_acts.proofs.TakenPrefixes.{holds-after}
 use Rattle.attentive_acts.proofs.ReachedActs.{follows-reached, first-reached}
 
 closes_it : (s : State) (c : ℕ) (k : Connection) → Rise 0 (serials s.connections) → closing s ≡ Some c → connection s c ≡ Some k → is_to_close s k ≡ true

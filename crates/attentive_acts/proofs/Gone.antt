@@ -1,5 +1,5 @@
 -- An invariant: each connection of a serial is parting with its bytes dropped.
-use Rattle.std.specs.Prelude.{◌≡◌, refl, ℕ, ◌<◌, ◌≤◌, Bool, true, false, not, ◌&&◌, ◌||◌, ◌==◌, cond, List, [], ◌∷◌, ◌++◌, Option, Some, None}
+use Rattle.std.specs.Prelude.{◌≡◌, refl, ℕ, ◌<◌, ◌≤◌, Bool, true, false, not, ◌&&◌, ◌||◌, ◌==◌, cond, List, [], ◌∷◌, Some}
 use Rattle.std.specs.List.{list_all, list_any}
 use Rattle.std.specs.Option.{option_map_or}
 use Rattle.std.proofs.Common.{arith, ap, sym, subst, ◌∙◌}
@@ -11,14 +11,13 @@ use Rattle.hello_states.specs.declared.part_cause.PartCause.{PartCause}
 use Rattle.hello_states.specs.declared.part_cause.PartCause.TheVariants as cause
 use Rattle.machine.specs.Connections.{Connection, fresh, has_serial, with_serial, is_live, changed, changed_at, serials}
 use Rattle.machine.specs.States.{State}
-use Rattle.machine.specs.Combining.{when, choose, for_some, unchanged}
-use Rattle.machine.specs.Screens.{connection, lives, change}
-use Rattle.machine.specs.Partings.{parted, marked, lose, screen_joined, say_farewell, part}
-use Rattle.machine.specs.Acceptance.{opened}
+use Rattle.machine.specs.Combining.{when, choose, unchanged}
+use Rattle.machine.specs.Screens.{lives, change}
+use Rattle.machine.specs.Partings.{parted, marked, lose, screen_joined, part}
 use Rattle.machine.specs.Happenings.{Happening, Joined, Got, Ended, Failed, Took, Moment, Closed}
 use Rattle.machine.specs.Steps.{drops, takes, breaks, step}
 use Rattle.machine.proofs.Rules.{choose-keeps, for_some-keeps}
-use Rattle.machine.proofs.Live.{lives_as, IsTame, PartsNone, parted-tame, drops-tame}
+use Rattle.machine.proofs.Live.{lives_as, IsTame, PartsNone}
 use Rattle.machine.proofs.Invariant.{View, On, IsInvariant}
 use Rattle.machine.proofs.AnyButton.{any, any_origin, rules-any, lines-any}
 use Rattle.machine.proofs.KeepPartings.{marked-off, lose-keeps, part_slow-keeps}

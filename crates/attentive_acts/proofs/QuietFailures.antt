@@ -10,12 +10,12 @@ use Rattle.hello_states.specs.Causes.{farewell}
 use Rattle.clip_chunks.specs.Rules as rules
 use Rattle.machine.specs.Targets.{Target, Primary, Client, Entry, Origin, Own, same_target}
 use Rattle.machine.specs.States.{State, Point}
-use Rattle.machine.specs.Combining.{when, choose, for_some, unchanged}
+use Rattle.machine.specs.Combining.{choose, unchanged}
 use Rattle.machine.specs.Queues.{entries_for}
 use Rattle.machine.specs.Screens.{screen_of, middle, lives, change}
 use Rattle.machine.specs.Routing.{route, entry}
 use Rattle.machine.specs.Clipboards.{clip, set_clip, give, refresh}
-use Rattle.machine.specs.Switching.{entering, at_screen, tell_entering, enter, fall_back}
+use Rattle.machine.specs.Switching.{entering, at_screen, tell_entering, fall_back}
 use Rattle.machine.specs.Partings.{lose, say_farewell, marked, screen_joined, part}
 use Rattle.machine.specs.Slow.{first_slow, part_first_slow, part_slow}
 use Rattle.machine.specs.Steps.{drops, breaks}

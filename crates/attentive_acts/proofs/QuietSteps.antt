@@ -1,6 +1,6 @@
 -- Happenings in which one connection neither takes bytes nor is accepted.
 use Rattle.std.specs.Prelude.{◌≡◌, refl, ℕ, ◌+◌, ◌≤◌, Bool, true, false, not, ◌&&◌, ◌||◌, ◌==◌, nat_lt, cond, is_some, List, [], ◌∷◌, ◌++◌, filter, unwrap_or, Option, Some, None}
-use Rattle.std.specs.List.{list_all, list_any}
+use Rattle.std.specs.List.{list_all}
 use Rattle.std.specs.Option.{option_map, option_map_or}
 use Rattle.std.proofs.Common.{arith, ap, sym, subst, ◌∙◌}
 use Rattle.std.proofs.lemmas.Bool.{and_parts, and_from}
@@ -27,11 +27,11 @@ use Rattle.machine.proofs.TakenStays.{HasTaken, took-stays, removed-stays, appen
 use Rattle.machine.proofs.TakenStays as taken
 use Rattle.machine.proofs.KeepSteps.{got-keeps, breaks-keeps, moment-keeps}
 use Rattle.machine.proofs.Runs.{accept-keeps}
-use Rattle.reached_states.specs.OpenSerials.{Rise, serials_after}
+use Rattle.reached_states.specs.OpenSerials.{serials_after}
 use Rattle.reached_states.proofs.OpenAfter.{open-after}
 use Rattle.reached_states.proofs.GrowingLog.{told-step}
 use Rattle.reached_states.proofs.Taken.{has-taken}
-use Rattle.reached_states.proofs.Dropped.{is_apart, AreApart}
+use Rattle.reached_states.proofs.Dropped.{AreApart}
 use Rattle.attentive_acts.specs.Telling.{state_after}
 use Rattle.attentive_acts.specs.Flags.{has_more}
 use Rattle.attentive_acts.proofs.WriteFlags.{is_among}

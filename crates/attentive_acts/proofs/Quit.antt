@@ -1,5 +1,5 @@
 -- Where a run has quit, each connection that was accepted was closed in a turn.
-use Rattle.std.specs.Prelude.{◌≡◌, refl, ℕ, Bool, true, false, not, ◌&&◌, ◌||◌, ◌==◌, cond, is_some, if◌then◌else◌, ◌⊎◌, List, [], ◌∷◌, ◌++◌, length, filter, Option, Some, None}
+use Rattle.std.specs.Prelude.{◌≡◌, refl, ℕ, Bool, true, false, not, ◌||◌, ◌==◌, cond, if◌then◌else◌, ◌⊎◌, List, [], ◌∷◌, ◌++◌, length, filter}
 use Rattle.std.specs.List.{list_all, list_any}
 use Rattle.std.proofs.Common.{arith, ap, sym, subst, ◌∙◌, inl, inr, append_assoc}
 use Rattle.std.proofs.lemmas.Bool.{and_parts}
@@ -15,12 +15,11 @@ use Rattle.machine.specs.Connections.{Connection, serials}
 use Rattle.machine.specs.States.{State}
 use Rattle.machine.specs.Readings.{is_over}
 use Rattle.machine.specs.Acceptance.{start}
-use Rattle.machine.specs.Happenings.{Happening, Joined, Got, Ended, Failed, Took, Moment, Closed}
-use Rattle.machine.specs.Steps.{step}
+use Rattle.machine.specs.Happenings.{Joined, Got, Ended, Failed, Took, Moment, Closed}
 use Rattle.reached_states.proofs.OpenAfter.{open-after}
 use Rattle.attentive_acts.specs.Telling.{state_after}
 use Rattle.attentive_acts.specs.Places.{Place, Waits, Asks, Accepts, Reads, Writes, Closes, Leaves, at_turn_end, after_first, after_wait}
-use Rattle.attentive_acts.specs.Judging.{Judge, Allows, AllowsAt, judge_after, judged, first_judge}
+use Rattle.attentive_acts.specs.Judging.{Judge, AllowsAt, judge_after, judged, first_judge}
 use Rattle.attentive_acts.specs.Offered.{is_ready, accepts_it, WasClosedInTurn, ClosedOnQuit}
 use Rattle.attentive_acts.proofs.NextPlaces.{ComeNext, place-next}
 use Rattle.attentive_acts.proofs.ActByAct.{act-by-act}
@@ -54,8 +53,8 @@ place_none : (j : Judge) (a : Act) → AllowsAt j.place j a → is_ready a ≡ t
 place_none j a h r n =
     let next : State = state_after a j.state in
     place-next NoneLeaves j.place a (judge_after j a).flags next (next_none next)
-        (λ e. waited_none j a next (subst (λ (p : Place). AllowsAt p j a) e h) r)
-        (λ rest e. left_none j rest a (subst NoneLeaves e n) (subst (λ (p : Place). AllowsAt p j a) e h))
+    (λ e. waited_none j a next (subst (λ (p : Place). AllowsAt p j a) e h) r)
+    (λ rest e. left_none j rest a (subst NoneLeaves e n) (subst (λ (p : Place). AllowsAt p j a) e h))
 
 -- ---- who is open
 

@@ -1,6 +1,5 @@
 -- Attentive acts lead through states that the machine reaches.
-use Rattle.std.specs.Prelude.{◌≡◌, refl, ℕ, ◌+◌, ◌-◌, ◌<◌, ◌≤◌, Bool, true, false, not, ◌&&◌, ◌||◌, ◌==◌, cond, is_some, if◌then◌else◌, List, [], ◌∷◌, ◌++◌, length, take, drop, filter, Option, Some, None}
-use Rattle.std.specs.List.{list_any, find}
+use Rattle.std.specs.Prelude.{◌≡◌, refl, ℕ, ◌+◌, ◌<◌, ◌≤◌, Bool, true, false, not, ◌&&◌, ◌==◌, cond, is_some, if◌then◌else◌, List, [], ◌∷◌, length, take, filter, Option, Some, None}
 use Rattle.std.specs.Option.{option_map_or}
 use Rattle.std.proofs.Common.{arith, ap, sym, subst, ◌∙◌}
 use Rattle.std.proofs.lemmas.Bool.{and_parts}
@@ -13,13 +12,12 @@ use Rattle.hub_acts.specs.declared.answers.AcceptAnswer.TheVariants as accepted
 use Rattle.hub_acts.specs.declared.answers.ReadAnswer.TheVariants as read
 use Rattle.hub_acts.specs.declared.answers.WriteAnswer.TheVariants as written
 use Rattle.hub_acts.specs.Counting.{latest_with}
-use Rattle.machine.specs.Connections.{Connection, has_serial, with_serial, is_live, serials, removed}
+use Rattle.machine.specs.Connections.{Connection, has_serial, with_serial, is_live, serials}
 use Rattle.machine.specs.States.{State}
-use Rattle.machine.specs.Screens.{connection, lives, has_untaken, taken_by}
+use Rattle.machine.specs.Screens.{connection, has_untaken, taken_by}
 use Rattle.machine.specs.Queues.{queue}
-use Rattle.machine.specs.Readings.{closing, is_over, reads}
+use Rattle.machine.specs.Readings.{reads}
 use Rattle.machine.specs.Happenings.{Happening, Joined, Got, Ended, Failed, Took, Moment, Closed, IsAllowed, IsOpen}
-use Rattle.machine.specs.Steps.{step}
 use Rattle.machine.proofs.OpenSerials.{removed-serials}
 use Rattle.reached_states.specs.Reaching.{Origin, start_of, Reached}
 use Rattle.reached_states.specs.OpenSerials.{Rise}
@@ -27,8 +25,8 @@ use Rattle.reached_states.proofs.Reaching.{goes-on}
 use Rattle.reached_states.proofs.OpenAfter.{closing-is-open}
 use Rattle.reached_states.proofs.Rising.{reached-rises}
 use Rattle.attentive_acts.specs.Telling.{happening_of, state_after}
-use Rattle.attentive_acts.specs.Flags.{Flags, has_flag, has_more}
-use Rattle.attentive_acts.specs.Places.{Place, Waits, Asks, Accepts, Reads, Writes, Closes, Leaves, at_turn_end, after_first, after_wait, place_after}
+use Rattle.attentive_acts.specs.Flags.{has_flag, has_more}
+use Rattle.attentive_acts.specs.Places.{Place, Waits, Asks, Accepts, Reads, Writes, Closes, Leaves, at_turn_end, after_first, after_wait}
 use Rattle.attentive_acts.specs.Judging.{Judge, AllowsAt, Follows, IsPiece, untaken, judge_after, judged, first_judge, leaving}
 use Rattle.attentive_acts.specs.ReachedActs.{LeaveAll, IsReached, AttentiveIsReached}
 use Rattle.attentive_acts.proofs.NextPlaces.{ComeNext, place-next}

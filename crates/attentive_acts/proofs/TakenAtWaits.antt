@@ -1,6 +1,6 @@
 -- At each wait, a connection that has bytes to take took some in the turn before, or refused the latest that were offered.
 use Rattle.std.specs.Prelude.{◌≡◌, refl, ℕ, ◌+◌, ◌-◌, ◌<◌, ◌≤◌, Bool, true, false, not, ◌&&◌, ◌||◌, ◌==◌, nat_lt, cond, is_some, if◌then◌else◌, ◌⊎◌, List, [], ◌∷◌, ◌++◌, length, take, filter, sum_by, Option, Some, None}
-use Rattle.std.specs.List.{fold, list_all, list_any}
+use Rattle.std.specs.List.{list_all, list_any}
 use Rattle.std.proofs.Common.{arith, ap, sym, subst, ◌∙◌, inl, inr, append_assoc}
 use Rattle.std.proofs.lemmas.Bool.{and_parts, and_from}
 use Rattle.std.proofs.lemmas.Bool.Decides.{nat_tests}
@@ -19,22 +19,21 @@ use Rattle.hub_acts.specs.declared.marks.Mark.{Mark}
 use Rattle.hub_acts.specs.Counting.{open_with}
 use Rattle.machine.specs.Connections.{serials}
 use Rattle.machine.specs.States.{State}
-use Rattle.machine.specs.Targets.{Entry, Client}
+use Rattle.machine.specs.Targets.{Entry}
 use Rattle.machine.specs.Screens.{connection, taken_by}
-use Rattle.machine.specs.Queues.{entries_for, fitting, size, total, queue}
-use Rattle.machine.specs.Happenings.{Happening, Joined, Got, Ended, Failed, Took, Moment, Closed}
+use Rattle.machine.specs.Queues.{fitting, size, total, queue}
+use Rattle.machine.specs.Happenings.{Happening, Failed, Took, Closed}
 use Rattle.machine.specs.Steps.{step}
 use Rattle.machine.specs.Acceptance.{start}
 use Rattle.machine.proofs.GrowingQueues.{queue-length}
 use Rattle.reached_states.specs.Reaching.{Origin, start_of}
-use Rattle.reached_states.proofs.Rising.{reached-rises}
 use Rattle.reached_states.proofs.NewSerials.{new-is-untold}
 use Rattle.reached_states.proofs.Taken.{taken-is-queued}
 use Rattle.reached_states.proofs.Dropped.{AreApart, reached-apart}
 use Rattle.attentive_acts.specs.Telling.{happening_of, step_if, state_after}
 use Rattle.attentive_acts.specs.Flags.{Flags, has_more, is_writable, is_readable, is_listening, flags_with, flags_after}
 use Rattle.attentive_acts.specs.Places.{Place, Waits, Asks, Accepts, Reads, Writes, Closes, Leaves, most_accepts, at_writes, at_reads, at_accepts, after_first, after_wait, after_accept, place_after}
-use Rattle.attentive_acts.specs.Judging.{Judge, Allows, AllowsAt, Follows, judge_after, judged, first_judge}
+use Rattle.attentive_acts.specs.Judging.{Judge, AllowsAt, judge_after, judged, first_judge}
 use Rattle.attentive_acts.specs.Laws.{taken_in, taken_bytes}
 use Rattle.attentive_acts.specs.Offered.{turn_with, turn_of, is_write_to, marks_writable, RefusedSince, is_answered, AllTakenAtWaits}
 use Rattle.attentive_acts.specs.ReachedActs.{IsReached}

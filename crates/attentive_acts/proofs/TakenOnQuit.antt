@@ -1,20 +1,16 @@
 -- Where a run has quit, each connection that wasn't cut off has taken its whole queue.
-use Rattle.std.specs.Prelude.{◌≡◌, refl, ℕ, ◌+◌, ◌<◌, ◌≤◌, Bool, true, false, ◌==◌, is_some, ◌⊎◌, List, [], ◌∷◌, ◌++◌, length, take, Option, Some, None}
-use Rattle.std.specs.List.{list_all, list_any}
+use Rattle.std.specs.Prelude.{◌≡◌, refl, ℕ, ◌+◌, ◌≤◌, true, is_some, List, [], ◌∷◌, ◌++◌, length, Option, Some, None}
 use Rattle.std.proofs.Common.{arith, ap, sym, subst, ◌∙◌, inl, inr}
-use Rattle.std.proofs.lemmas.Bool.Decides.{nat_tests}
 use Rattle.std.proofs.lemmas.List.{take_all, length-append}
 use Rattle.std.proofs.lemmas.Grind.{flat_map-append}
 use Rattle.share_base.specs.Fronts.{IsFront}
-use Rattle.screen_config.specs.Configurations.{Configuration}
 use Rattle.hub_acts.specs.declared.act.Act.{Act}
 use Rattle.hub_acts.specs.declared.act.Act.TheVariants as act
 use Rattle.hub_acts.specs.declared.answers.AcceptAnswer.TheVariants as accepted
 use Rattle.hub_acts.specs.declared.answers.ReadAnswer.TheVariants as read
 use Rattle.hub_acts.specs.declared.answers.WriteAnswer.TheVariants as written
 use Rattle.hub_acts.specs.Counting.{latest_with}
-use Rattle.machine.specs.Scripts.{Script}
-use Rattle.machine.specs.Targets.{Entry, Client, same_target}
+use Rattle.machine.specs.Targets.{Entry, Client}
 use Rattle.machine.specs.Connections.{Connection}
 use Rattle.machine.specs.States.{State}
 use Rattle.machine.specs.Screens.{connection}
@@ -22,8 +18,7 @@ use Rattle.machine.specs.Queues.{entries_for, fitting, messages_in, queue}
 use Rattle.message_codec.specs.Streams.{frames_of}
 use Rattle.machine.specs.Readings.{closing}
 use Rattle.machine.specs.Acceptance.{start}
-use Rattle.machine.specs.Happenings.{Happening, Joined, Got, Ended, Failed, Took, Moment, Closed}
-use Rattle.machine.specs.Steps.{step}
+use Rattle.machine.specs.Happenings.{Joined, Got, Ended, Failed, Took, Moment, Closed}
 use Rattle.machine.proofs.Invariant.{On}
 use Rattle.reached_states.specs.Reaching.{Origin}
 use Rattle.reached_states.proofs.OpenAfter.{closing-is-open}
@@ -33,9 +28,9 @@ use Rattle.attentive_acts.specs.Telling.{state_after}
 use Rattle.attentive_acts.specs.Places.{Place}
 use Rattle.attentive_acts.specs.Judging.{Judge, Allows, AllowsAt, Follows, judge_after, judged, first_judge}
 use Rattle.attentive_acts.specs.Laws.{taken_in, taken_bytes}
-use Rattle.attentive_acts.specs.Offered.{WasClosedInTurn, WasCutOff, AllTakenOnQuit}
+use Rattle.attentive_acts.specs.Offered.{WasClosedInTurn, AllTakenOnQuit}
 use Rattle.attentive_acts.proofs.SingleActs.{follows-at, follows-front}
-use Rattle.attentive_acts.proofs.TakenPrefixes.{Holds, holds-after, upto-latest}
+use Rattle.attentive_acts.proofs.TakenPrefixes.{holds-after, upto-latest}
 use Rattle.attentive_acts.proofs.ReachedActs.{follows-reached, first-reached}
 use Rattle.attentive_acts.proofs.ActByAct.{act-by-act}
 use Rattle.attentive_acts.proofs.Closings.{all-taken-at-closings}
@@ -107,7 +102,7 @@ all-taken-on-quit config script now acts w ready over c accepted =
     let out = all_out c those after was.after known (closed-out c j.state idle) rest.1 in
     let end : judged first acts ≡ judged after was.after = ap (judged first) was.split ∙ judged_rest first was.before (act.Close c ∷ was.after) in
     let queued : queue (judged first acts).state.routed c ≡ queue j.state.routed c =
-        ap (λ (i : Judge). queue i.state.routed c) end ∙ ap (λ (es : List Entry). frames_of (messages_in (fitting 0 es))) out.told in
+    ap (λ (i : Judge). queue i.state.routed c) end ∙ ap (λ (es : List Entry). frames_of (messages_in (fitting 0 es))) out.told in
     elim (all-taken-at-closings config script now was.before was.after c all was.place k.0 k.1) [
       | inl dropped ↦ inl (record { closed = was; connection_is = k.0; found = k.1; cause = inl dropped })
       | inr other ↦ elim other [

@@ -1,7 +1,7 @@
 -- What acts do to the flag that a connection may be written to.
-use Rattle.std.specs.Prelude.{◌≡◌, refl, ℕ, ◌<◌, ◌≤◌, Bool, true, false, not, ◌&&◌, ◌||◌, ◌==◌, nat_lt, cond, if◌then◌else◌, List, [], ◌∷◌, ◌++◌, map, filter}
+use Rattle.std.specs.Prelude.{◌≡◌, refl, ℕ, Bool, true, false, not, ◌&&◌, ◌||◌, ◌==◌, nat_lt, cond, if◌then◌else◌, List, [], ◌∷◌, map, filter}
 use Rattle.std.specs.List.{fold, list_any}
-use Rattle.std.proofs.Common.{arith, ap, sym, subst, ◌∙◌}
+use Rattle.std.proofs.Common.{arith, ap, sym, ◌∙◌}
 use Rattle.std.proofs.lemmas.Bool.Decides.{nat_tests}
 use Rattle.std.proofs.lemmas.List.Folds.{list_any-append}
 use Rattle.std.proofs.lemmas.List.{map-append}
@@ -18,7 +18,7 @@ use Rattle.hub_acts.specs.declared.marks.Mark.TheVariants as mark
 use Rattle.machine.specs.States.{State}
 use Rattle.machine.specs.Queues.{total}
 use Rattle.attentive_acts.specs.Flags.{Flag, Flags, flag_at, change_flag, with_mark, read_drained, write_drained, flags_with, flag_grown, flags_after}
-use Rattle.attentive_acts.specs.Offered.{is_write_to, is_writable_mark, marks_writable}
+use Rattle.attentive_acts.specs.Offered.{is_write_to, is_writable_mark}
 
 abbrev pub is_set : ℕ → List Flag → Bool
 is_set c streams = list_any (λ (f : Flag). (f.serial == c) && f.writes) streams

@@ -1,9 +1,8 @@
 //! What holds of every list of attentive acts.
 
 ghost use Rattle.attentive_acts.specs.Laws.{ReadsTheLiving, WritesWhatIsQueued, TakenInOrder};
-ghost use Rattle.attentive_acts.specs.Offered.{
-    AllTakenAtClosings, AllTakenAtWaits, AllTakenOnQuit, ClosedOnQuit,
-};
+ghost use Rattle.attentive_acts.specs.Offered.{AllTakenAtClosings, AllTakenAtWaits};
+ghost use Rattle.attentive_acts.specs.Offered.{AllTakenOnQuit, ClosedOnQuit};
 ghost use Rattle.attentive_acts.specs.OpenTogether.{OpenTogether};
 ghost use Rattle.attentive_acts.specs.ReachedActs.{AttentiveIsReached};
 
@@ -22,19 +21,20 @@ pub fn taken_in_order()
     ensures { TakenInOrder }
 {}
 
-/// Attentive acts, and the closings at the end of their run, lead through states that the machine reaches.
+/// Attentive acts, and the closings at the end of their run, lead through states that the machine
+/// reaches.
 pub fn attentive_is_reached()
     ensures { AttentiveIsReached }
 {}
 
-/// A connection that has bytes to take at a wait took some in the turn before, or it refused the latest
-/// that it was offered, and since then nothing more was queued for it nor was it marked.
+/// A connection that has bytes to take at a wait took some in the turn before, or it refused the
+/// latest that it was offered, and since then nothing more was queued for it nor was it marked.
 pub fn all_taken_at_waits()
     ensures { AllTakenAtWaits }
 {}
 
-/// A connection that is closed in a turn had its bytes dropped, or its closing time is over, or it has
-/// taken its whole queue.
+/// A connection that is closed in a turn had its bytes dropped, or its closing time is over, or it
+/// has taken its whole queue.
 pub fn all_taken_at_closings()
     ensures { AllTakenAtClosings }
 {}
@@ -49,8 +49,8 @@ pub fn open_together()
     ensures { OpenTogether }
 {}
 
-/// Where a run has quit, each connection that it accepted has taken its whole queue, but for those that
-/// were closed with their bytes dropped or as their closing time was over.
+/// Where a run has quit, each connection that it accepted has taken its whole queue, but for those
+/// that were closed with their bytes dropped or as their closing time was over.
 pub fn all_taken_on_quit()
     ensures { AllTakenOnQuit }
 {}

@@ -1,9 +1,9 @@
-//! Which acts a loop makes that misses nothing: turns of one wait, the moment, accepts, reads, writes and
-//! closings, each due where it stands.
+//! Which acts a loop makes that misses nothing: turns of one wait, the moment, accepts, reads,
+//! writes and closings, each due where it stands.
 //!
 //! It owns the happenings that acts tell (`specs/Telling.antt`), what may still be read, written or
-//! accepted (`specs/Flags.antt`), which act is due (`specs/Places.antt`, `specs/Judging.antt`), and laws
-//! over such acts (`specs/Laws.antt`, `specs/ReachedActs.antt`, `specs/OpenTogether.antt`,
+//! accepted (`specs/Flags.antt`), which act is due (`specs/Places.antt`, `specs/Judging.antt`), and
+//! laws over such acts (`specs/Laws.antt`, `specs/ReachedActs.antt`, `specs/OpenTogether.antt`,
 //! `specs/Offered.antt`). It has no program code.
 #![tactic(auto)]
 

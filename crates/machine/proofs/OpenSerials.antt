@@ -1,7 +1,7 @@
 -- An invariant: the same connections are open, by their serials. Only acceptances and closings change which.
-use Rattle.std.specs.Prelude.{◌≡◌, refl, ℕ, Bool, true, false, not, ◌==◌, cond, List, [], ◌∷◌, filter, map}
+use Rattle.std.specs.Prelude.{◌≡◌, refl, ℕ, Bool, true, false, not, ◌==◌, cond, List, [], ◌∷◌, filter}
 use Rattle.std.proofs.Common.{ap, ◌∙◌}
-use Rattle.machine.specs.Connections.{Connection, has_serial, changed, changed_at, removed, serials}
+use Rattle.machine.specs.Connections.{Connection, has_serial, changed, removed, serials}
 use Rattle.machine.specs.Combining.{when}
 use Rattle.machine.specs.Partings.{parted}
 use Rattle.machine.specs.Steps.{drops}

@@ -1,39 +1,31 @@
 -- The connection of the active screen, where it is open, is joined: no rule leaves another one active.
-use Rattle.std.specs.Prelude.{◌≡◌, refl, ℕ, ℤ, ◌<◌, nat_le, Bool, true, false, not, ◌&&◌, ◌==◌, cond, if◌then◌else◌, is_some, List, [], ◌∷◌, ◌++◌, length, drop, map, unwrap_or, Option, Some, None}
+use Rattle.std.specs.Prelude.{◌≡◌, refl, ℕ, Bool, true, false, ◌&&◌, ◌==◌, cond, if◌then◌else◌, is_some, List, [], ◌∷◌, length, map, Option, Some, None}
 use Rattle.std.specs.List.{find}
 use Rattle.std.specs.Option.{option_map, option_map_or, option_and_then}
 use Rattle.std.proofs.Common.{arith, ap, sym, subst, ◌∙◌}
 use Rattle.std.proofs.lemmas.Bool.Decides.{nat_tests}
-use Rattle.std.proofs.lemmas.List.{map-append}
 use Rattle.share_base.specs.declared.clip_id.ClipId.{ClipId}
 use Rattle.share_base.specs.declared.clip_id.ClipId.TheVariants.{Clipboard, Selection}
-use Rattle.share_base.specs.declared.shape.Shape.{Shape}
-use Rattle.share_base.specs.declared.shape.Side.{Side}
-use Rattle.screen_links.specs.declared.link.Landing.{Landing}
 use Rattle.message_codec.specs.declared.messages.Msg.{Msg}
 use Rattle.message_codec.specs.declared.messages.Msg.TheVariants as msg
-use Rattle.hotkey_rules.specs.declared.action.Action.{Action}
-use Rattle.hotkey_rules.specs.declared.action.Action.TheVariants as action
 use Rattle.hello_states.specs.declared.part_cause.PartCause.{PartCause}
 use Rattle.hello_states.specs.declared.part_cause.PartCause.TheVariants as cause
 use Rattle.hello_states.specs.Causes.{farewell}
-use Rattle.hello_states.specs.Phases.{Phase, Greeting, Asked, Joined, Parting, joined_screen}
 use Rattle.clip_chunks.specs.Parts.{message_of}
 use Rattle.clip_chunks.specs.Sending.{parts_of}
 use Rattle.clip_chunks.specs.Rules as rules
-use Rattle.machine.specs.Targets.{Target, Primary, Client, Origin, Own, OfLine, same_target}
-use Rattle.machine.specs.Connections.{Connection, fresh, has_serial, with_serial, changed, changed_at, removed, serials}
+use Rattle.machine.specs.Targets.{Target, Primary, Client, Origin, Own, same_target}
+use Rattle.machine.specs.Connections.{Connection, has_serial, with_serial, changed, changed_at, serials}
 use Rattle.machine.specs.States.{State, Point}
-use Rattle.machine.specs.Combining.{when, choose, for_some, for_each, unchanged}
-use Rattle.machine.specs.Screens.{connection, screen_in, is_number, is_joined_as, client_as, target_of, screen_of, shape_of, joined_screens, joined_clients, middle, lives}
+use Rattle.machine.specs.Combining.{when, for_some, unchanged}
+use Rattle.machine.specs.Screens.{connection, screen_in, is_number, is_joined_as, client_as, target_of, screen_of, joined_screens, joined_clients, middle}
 use Rattle.machine.specs.Routing.{route, route_all, route_each}
 use Rattle.machine.specs.Clipboards.{clip, set_clip, is_sharing, clip_limit, give, refresh, refresh_both, become_known, publish, copy, all_but, take_over, grab, whole}
-use Rattle.machine.specs.Switching.{entering, at_screen, tell_entering, enter, tell_leaving, switch, fall_back}
+use Rattle.machine.specs.Switching.{tell_entering, enter, tell_leaving, switch, fall_back}
 use Rattle.machine.specs.Partings.{lose, say_farewell, parted, marked, screen_joined, part}
 use Rattle.machine.specs.Slow.{first_slow, part_first_slow, part_slow}
-use Rattle.machine.proofs.Rules.{when-keeps, when-keeps-if, choose-keeps, for_some-keeps, for_each-keeps, times-keeps}
+use Rattle.machine.proofs.Rules.{when-keeps, for_some-keeps, for_each-keeps, times-keeps}
 use Rattle.machine.proofs.Finding.{none_some, some_is, found-passes}
-use Rattle.machine.proofs.Targets.{same_target-is}
 use Rattle.machine.proofs.Live.{IsTame, parted-tame}
 use Rattle.machine.proofs.OpenSerials.{changed-serials}
 use Rattle.reached_states.specs.OpenSerials.{Rise}

@@ -1,5 +1,5 @@
 -- Actions, events, lines, timers and messages leave the active screen's connection joined.
-use Rattle.std.specs.Prelude.{◌≡◌, refl, ℕ, ℤ, nat_le, Bool, true, false, not, ◌&&◌, ◌==◌, if◌then◌else◌, is_some, List, [], ◌∷◌, ◌++◌, length, drop, unwrap_or, Option, Some, None}
+use Rattle.std.specs.Prelude.{◌≡◌, refl, ℕ, ℤ, nat_le, Bool, true, false, not, ◌&&◌, if◌then◌else◌, is_some, List, [], ◌∷◌, ◌++◌, length, drop, unwrap_or, Option, Some, None}
 use Rattle.std.specs.Option.{option_map}
 use Rattle.std.proofs.Common.{arith, ap, sym, subst, ◌∙◌}
 use Rattle.share_base.specs.declared.numbers.RuleNo.{RuleNo}
@@ -25,7 +25,7 @@ use Rattle.clip_chunks.specs.Parts as parts
 use Rattle.clip_chunks.specs.OpenRuns.{whole_at}
 use Rattle.machine.specs.Scripts.{Line, Sleep, Await, KeyDown, KeyRepeat, KeyUp, ButtonDown, ButtonUp, Motion, Wheel, Saver, Copy, Quit}
 use Rattle.machine.specs.Targets.{Target, Primary, Client, Origin, Own, OfLine, OfAction, same_target}
-use Rattle.machine.specs.Connections.{Connection, with_serial, serials, is_live, advanced}
+use Rattle.machine.specs.Connections.{Connection, serials, is_live, advanced}
 use Rattle.machine.specs.States.{State, Point, Join}
 use Rattle.machine.specs.Combining.{when, choose, for_some, for_each, unchanged}
 use Rattle.machine.specs.Screens.{connection, phase_of, lives, change, target_of, shape_of, middle, joined_clients}
@@ -37,19 +37,19 @@ use Rattle.machine.specs.Edges.{Way, way, landing, edge_at_cursor, first_way}
 use Rattle.machine.specs.Crossing.{Cross, Stay, Switch, switch_at, through, stay, cross, cross_by, moved_point, entry_point}
 use Rattle.machine.specs.Switching.{switch}
 use Rattle.machine.specs.Actions.{may_switch, switch_to, enter_landing, switch_toward, act, act_all}
-use Rattle.machine.specs.Routes.{Route, Hotkey, Nothing, One, route_of, moves_by, key_rule, button_rule, taking, to_hotkey, unless_taken}
-use Rattle.machine.specs.Events.{holding, go, gate_hears, moved, move, move_by, motion, event}
+use Rattle.machine.specs.Routes.{One, moves_by, key_rule, button_rule, taking, to_hotkey, unless_taken}
+use Rattle.machine.specs.Events.{holding, go, gate_hears, moved, move, move_by, motion}
 use Rattle.machine.specs.Partings.{part}
 use Rattle.machine.specs.Slow.{part_slow}
-use Rattle.machine.specs.Running.{save, say_bye, quit, does, past, run_line, run_ahead, run_script, may_run}
+use Rattle.machine.specs.Running.{save, say_bye, quit, does, past, run_line, run_ahead, may_run}
 use Rattle.machine.specs.Timers.{clock, timer, timers, has_died, was_silent, owes_beat, sent_beat, beat, deaths, silences, beats, switch_through, try, gate_timer, after_timers}
 use Rattle.machine.specs.Hello.{rate, is_used, answer}
 use Rattle.machine.specs.Information.{name_of, join, clamp_cursor, reshape, hear_first_info, hear_later_info}
 use Rattle.machine.specs.Hearing.{with_part, parts_from, hear_part, hear_greeting, hear_asked, hear_joined, was_heard, hear_in, hear}
-use Rattle.machine.specs.Steps.{inbox_of, received_by, receives, judge, hear_added, hear_piece, got, drops, breaks, takes, close, moment}
+use Rattle.machine.specs.Steps.{inbox_of, received_by, receives, judge, hear_piece, got, drops, breaks, moment}
 use Rattle.machine.proofs.Rules.{when-keeps, when-keeps-if, choose-keeps, for_some-keeps, for_each-keeps}
-use Rattle.machine.proofs.Finding.{none_some, some_is}
-use Rattle.machine.proofs.Live.{IsTame, steady-tame, drops-tame}
+use Rattle.machine.proofs.Finding.{some_is}
+use Rattle.machine.proofs.Live.{steady-tame, drops-tame}
 use Rattle.machine.proofs.KeepHearing.{advanced-tame, heard-steady, with_part-steady}
 use Rattle.machine.proofs.KeepScripts.{beat-steady}
 use Rattle.machine.proofs.KeepSteps.{receives-steady}

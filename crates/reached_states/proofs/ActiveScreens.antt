@@ -1,5 +1,5 @@
 -- In each state that is reached the connection of the active screen, where it is open, is joined.
-use Rattle.std.specs.Prelude.{◌≡◌, refl, ℕ, ◌<◌, ◌≤◌, nat_le, Bool, true, false, not, ◌==◌, cond, is_some, List, [], ◌∷◌, ◌++◌, length, filter, Option, Some, None}
+use Rattle.std.specs.Prelude.{◌≡◌, refl, ℕ, ◌<◌, ◌≤◌, nat_le, Bool, true, false, not, ◌==◌, cond, is_some, List, [], ◌∷◌, ◌++◌, length, Option, Some, None}
 use Rattle.std.specs.List.{find}
 use Rattle.std.specs.Option.{option_map}
 use Rattle.std.proofs.Common.{arith, ap, sym, subst, ◌∙◌}
@@ -8,10 +8,9 @@ use Rattle.std.proofs.lemmas.List.{map-append}
 use Rattle.hello_states.specs.Phases.{Phase, Greeting, Asked, Parting, joined_screen}
 use Rattle.hello_states.specs.Phases as phases
 use Rattle.hello_states.specs.declared.part_cause.PartCause.TheVariants as cause
-use Rattle.machine.specs.Targets.{Target, Primary, Client, same_target}
+use Rattle.machine.specs.Targets.{Target, Client, same_target}
 use Rattle.machine.specs.Connections.{Connection, fresh, has_serial, with_serial, removed, serials}
 use Rattle.machine.specs.States.{State}
-use Rattle.machine.specs.Combining.{choose}
 use Rattle.machine.specs.Screens.{connection}
 use Rattle.machine.specs.Partings.{part}
 use Rattle.machine.specs.Readings.{closing, is_to_close, is_to_close_in}

@@ -1,9 +1,9 @@
 -- Few connections are open, but for those that part at once as there are too many.
-use Rattle.std.specs.Prelude.{◌≡◌, refl, ℕ, ◌+◌, ◌<◌, ◌≤◌, nat_le, Bool, true, false, not, ◌&&◌, ◌||◌, ◌==◌, cond, List, [], ◌∷◌, ◌++◌, length, filter, map, Option, Some, None}
+use Rattle.std.specs.Prelude.{◌≡◌, refl, ℕ, ◌<◌, ◌≤◌, nat_le, Bool, true, false, not, ◌&&◌, ◌||◌, ◌==◌, cond, List, [], ◌∷◌, ◌++◌, length, filter, Option, Some, None}
 use Rattle.std.specs.List.{list_all, list_any, find}
 use Rattle.std.specs.Option.{option_map, option_and_then}
 use Rattle.std.proofs.Common.{arith, ap, sym, subst, ◌∙◌}
-use Rattle.std.proofs.lemmas.Bool.{and_parts, and_from}
+use Rattle.std.proofs.lemmas.Bool.{and_parts}
 use Rattle.std.proofs.lemmas.Bool.Decides.{nat_tests}
 use Rattle.std.proofs.lemmas.List.{length-append, map-append}
 use Rattle.share_base.proofs.ListTests.{all_append, none_of_find}
@@ -11,10 +11,10 @@ use Rattle.hello_states.specs.declared.part_cause.PartCause.{PartCause}
 use Rattle.hello_states.specs.declared.part_cause.PartCause.TheVariants as cause
 use Rattle.hello_states.specs.Causes.{drops_queue}
 use Rattle.hello_states.specs.Phases.{Phase, Greeting, Asked, Joined, Parting, is_parting}
-use Rattle.machine.specs.Connections.{Connection, fresh, has_serial, is_live, changed, changed_at, removed, serials}
+use Rattle.machine.specs.Connections.{Connection, fresh, has_serial, is_live, changed, changed_at, serials}
 use Rattle.machine.specs.States.{State}
 use Rattle.machine.specs.Combining.{when, for_some, unchanged}
-use Rattle.machine.specs.Screens.{screen_in, change}
+use Rattle.machine.specs.Screens.{screen_in}
 use Rattle.machine.specs.Partings.{lose, parted, marked, part}
 use Rattle.machine.specs.Readings.{closing, is_to_close, is_to_close_in}
 use Rattle.machine.specs.Acceptance.{most_open, opened, greet, accept}

@@ -1,15 +1,14 @@
 -- Which serials are open after a happening, and that the one to be closed is open.
-use Rattle.std.specs.Prelude.{◌≡◌, refl, ℕ, Bool, true, false, not, ◌||◌, ◌==◌, cond, is_some, List, [], ◌∷◌, ◌++◌, filter, map, Option, Some, None}
+use Rattle.std.specs.Prelude.{◌≡◌, refl, Bool, true, false, ◌||◌, cond, is_some, List, [], ◌∷◌, ◌++◌, Option, Some, None}
 use Rattle.std.specs.List.{list_any, find}
 use Rattle.std.specs.Option.{option_map}
-use Rattle.std.proofs.Common.{arith, ap, sym, subst, ◌∙◌}
+use Rattle.std.proofs.Common.{arith, subst}
 use Rattle.std.proofs.lemmas.List.{map-append}
 use Rattle.hello_states.specs.declared.part_cause.PartCause.TheVariants as cause
-use Rattle.machine.specs.Connections.{Connection, fresh, has_serial, with_serial, changed, changed_at, removed, serials}
-use Rattle.machine.specs.States.{State}
-use Rattle.machine.specs.Readings.{closing, is_to_close}
-use Rattle.machine.specs.Happenings.{Happening, Joined, Got, Ended, Failed, Took, Moment, Closed, IsOpen}
-use Rattle.machine.specs.Steps.{takes, step}
+use Rattle.machine.specs.Connections.{Connection, fresh, has_serial, with_serial, serials}
+use Rattle.machine.specs.Readings.{is_to_close}
+use Rattle.machine.specs.Happenings.{Joined, Got, Ended, Failed, Took, Moment, Closed, IsOpen}
+use Rattle.machine.specs.Steps.{takes}
 use Rattle.machine.proofs.Finding.{none_some, some_is, found-any}
 use Rattle.machine.proofs.OpenSerials.{changed-serials, removed-serials}
 use Rattle.machine.proofs.OpenSerials as those

@@ -1,5 +1,4 @@
 -- The machine's laws, at the state that a run reached.
-use Rattle.std.specs.Prelude.{ℕ, List}
 use Rattle.std.proofs.Common.{sym, subst}
 use Rattle.machine.specs.Held.{OnlyActiveHolds}
 use Rattle.machine.specs.NothingLeftOut.{NothingIsLeftOut}

@@ -1,7 +1,7 @@
 -- The serials of the connections rise.
-use Rattle.std.specs.Prelude.{◌≡◌, refl, ℕ, ◌<◌, ◌≤◌, nat_le, Bool, true, false, not, ◌&&◌, ◌||◌, ◌==◌, cond, List, [], ◌∷◌, ◌++◌, filter, All, Some}
+use Rattle.std.specs.Prelude.{◌≡◌, refl, ℕ, ◌<◌, ◌≤◌, Bool, true, false, not, ◌&&◌, ◌||◌, ◌==◌, cond, List, [], ◌∷◌, ◌++◌, filter, All, Some}
 use Rattle.std.specs.List.{list_all, list_any, find}
-use Rattle.std.proofs.Common.{arith, ap, sym, subst, ◌∙◌}
+use Rattle.std.proofs.Common.{arith, ap, sym, subst}
 use Rattle.std.proofs.lemmas.Bool.{and_parts}
 use Rattle.std.proofs.lemmas.Bool.Decides.{nat_tests}
 use Rattle.std.proofs.lemmas.List.Elements.{All-nil, All-cons}
@@ -9,7 +9,6 @@ use Rattle.machine.specs.Connections.{Connection, has_serial, with_serial, is_li
 use Rattle.machine.specs.States.{State}
 use Rattle.machine.specs.Combining.{when}
 use Rattle.machine.specs.Happenings.{Happening, Joined, Got, Ended, Failed, Took, Moment, Closed, IsAllowed}
-use Rattle.machine.specs.Steps.{step}
 use Rattle.machine.proofs.Finding.{none_some, some_is}
 use Rattle.machine.proofs.Live.{lives_as}
 use Rattle.machine.proofs.Invariant.{On}

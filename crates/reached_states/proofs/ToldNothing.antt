@@ -8,8 +8,8 @@ use Rattle.message_codec.specs.declared.messages.Msg.{Msg}
 use Rattle.message_codec.specs.declared.messages.Msg.TheVariants as msg
 use Rattle.hello_states.specs.declared.part_cause.PartCause.TheVariants as cause
 use Rattle.machine.specs.Targets.{Target, Primary, Client, Entry, Origin, Own, same_target}
-use Rattle.machine.specs.Connections.{Connection, fresh, has_serial, is_live, changed, removed}
-use Rattle.machine.specs.States.{State, Point}
+use Rattle.machine.specs.Connections.{Connection, fresh, has_serial, is_live, removed}
+use Rattle.machine.specs.States.{State}
 use Rattle.machine.specs.Queues.{entries_for}
 use Rattle.machine.specs.Routing.{route, entry}
 use Rattle.machine.specs.Switching.{entering, at_screen, tell_leaving}

@@ -1,17 +1,16 @@
 -- A connection is never owed more bytes than the limit.
-use Rattle.std.specs.Prelude.{◌≡◌, refl, ℕ, ◌+◌, ◌-◌, ◌<◌, ◌≤◌, nat_le, Bool, true, false, ◌==◌, cond, if◌then◌else◌, is_some, ◌⊎◌, List, [], ◌∷◌, ◌++◌, length, sum_by, unwrap_or, Option, Some, None}
+use Rattle.std.specs.Prelude.{◌≡◌, refl, ℕ, ◌+◌, ◌-◌, ◌<◌, ◌≤◌, Bool, true, false, ◌==◌, cond, if◌then◌else◌, is_some, ◌⊎◌, List, [], ◌∷◌, ◌++◌, length, sum_by, unwrap_or, Option, Some, None}
 use Rattle.std.specs.Option.{option_map}
-use Rattle.std.proofs.Common.{arith, ap, sym, subst, ◌∙◌, inl, inr}
+use Rattle.std.proofs.Common.{arith, ap, sym, ◌∙◌, inl, inr}
 use Rattle.std.proofs.lemmas.Bool.Decides.{nat_tests}
-use Rattle.std.proofs.lemmas.List.{append-nil}
 use Rattle.std.proofs.lemmas.List.Sums.{sum_by-append, sum_by-cons}
 use Rattle.message_codec.specs.declared.messages.Msg.{Msg}
 use Rattle.message_codec.specs.declared.messages.Msg.TheVariants as msg
 use Rattle.hello_states.specs.declared.part_cause.PartCause.TheVariants as cause
 use Rattle.machine.specs.Targets.{Target, Primary, Client, Entry, Origin, Own, same_target}
-use Rattle.machine.specs.Connections.{Connection, fresh, has_serial, with_serial, changed, removed}
-use Rattle.machine.specs.States.{State, Point}
-use Rattle.machine.specs.Screens.{connection, taken_by, change}
+use Rattle.machine.specs.Connections.{Connection, fresh, with_serial, changed, removed}
+use Rattle.machine.specs.States.{State}
+use Rattle.machine.specs.Screens.{connection, taken_by}
 use Rattle.machine.specs.Queues.{most_untaken, entries_for, size, fits, fitting, total, queue}
 use Rattle.machine.specs.Routing.{route, entry, taken_at}
 use Rattle.machine.specs.Switching.{entering, at_screen, tell_leaving}
@@ -20,7 +19,6 @@ use Rattle.machine.specs.Acceptance.{opened}
 use Rattle.machine.specs.Happenings.{Happening, Joined, Got, Ended, Failed, Took, Moment, Closed, IsAllowed}
 use Rattle.machine.specs.Steps.{drops, takes, step}
 use Rattle.machine.proofs.Finding.{none_some, some_is}
-use Rattle.machine.proofs.Live.{parted-tame, drops-tame}
 use Rattle.machine.proofs.Targets.{added_if, entries-more}
 use Rattle.machine.proofs.Invariant.{View, On, IsInvariant}
 use Rattle.machine.proofs.AnyButton.{any, any_origin, rules-any, lines-any}
@@ -66,11 +64,14 @@ told_within c routed e = at (same_target e.target (Client c)) refl (entries-more
     at false f same = inl (ap (λ (es : List Entry). sum_by size (fitting 0 es)) same)
     at true f more = elim (fits_or 0 (entries_for (Client c) routed) e) [
       | inl out ↦ inl (ap (λ (es : List Entry). sum_by size (fitting 0 es)) more ∙ ap (λ (es : List Entry). sum_by size es) out)
-      | inr room ↦ inr (f, (
-          let queued : List Entry = fitting 0 (entries_for (Client c) routed) in
-          let long : total (routed ++ e ∷ []) c ≡ sum_by size queued + (size e + 0) = ap (λ (es : List Entry). sum_by size (fitting 0 es)) more ∙ (ap (λ (es : List Entry). sum_by size es) room.0 ∙ (sum_by-append size queued (e ∷ []) ∙ ap (λ (n : ℕ). sum_by size queued + n) (sum_by-cons size e []))) in
-          let within : ((0 + sum_by size queued) + size e) - e.taken ≤ most_untaken = let fit = room.1 in grind (arith, nat_tests, fit) in
-          within_taken (sum_by size queued) (size e) e.taken (total (routed ++ e ∷ []) c) most_untaken long within))
+      | inr room ↦ inr (
+        f,
+        (
+            let queued : List Entry = fitting 0 (entries_for (Client c) routed) in
+            let long : total (routed ++ e ∷ []) c ≡ sum_by size queued + (size e + 0) = ap (λ (es : List Entry). sum_by size (fitting 0 es)) more ∙ (ap (λ (es : List Entry). sum_by size es) room.0 ∙ (sum_by-append size queued (e ∷ []) ∙ ap (λ (n : ℕ). sum_by size queued + n) (sum_by-cons size e []))) in
+            let within : ((0 + sum_by size queued) + size e) - e.taken ≤ most_untaken = let fit = room.1 in grind (arith, nat_tests, fit) in
+            within_taken (sum_by size queued) (size e) e.taken (total (routed ++ e ∷ []) c) most_untaken long within),
+      )
     ]
 
 -- ---- the invariant

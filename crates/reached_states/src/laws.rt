@@ -5,10 +5,10 @@ ghost use Rattle.reached_states.specs.Dropped.{LiveKeepBytes};
 ghost use Rattle.reached_states.specs.FewOpen.{FewAreOpen};
 ghost use Rattle.reached_states.specs.Growing.{LogGrows};
 ghost use Rattle.reached_states.specs.NewSerials.{NewIsUntold};
-ghost use Rattle.reached_states.specs.OpenSerials.{
-    ClosingIsOpen, OpenAfter, SerialsRise, TakenIsQueued, UntakenIsBounded,
-};
-ghost use Rattle.reached_states.specs.Promises.{AllQueuedWhereReached, HeldWhereReached, OneForOneWhereReached};
+ghost use Rattle.reached_states.specs.OpenSerials.{ClosingIsOpen, OpenAfter, SerialsRise};
+ghost use Rattle.reached_states.specs.OpenSerials.{TakenIsQueued, UntakenIsBounded};
+ghost use Rattle.reached_states.specs.Promises.{AllQueuedWhereReached, HeldWhereReached};
+ghost use Rattle.reached_states.specs.Promises.{OneForOneWhereReached};
 ghost use Rattle.reached_states.specs.Reaching.{GoesOn};
 
 /// Where a state is reached and a happening may come, the state after it is reached too.
@@ -16,7 +16,8 @@ pub fn goes_on()
     ensures { GoesOn }
 {}
 
-/// A serial above the latest one isn't 0, is greater than those of all connections, and was told nothing.
+/// A serial above the latest one isn't 0, is greater than those of all connections, and was told
+/// nothing.
 pub fn new_is_untold()
     ensures { NewIsUntold }
 {}
@@ -26,8 +27,8 @@ pub fn log_grows()
     ensures { LogGrows }
 {}
 
-/// An acceptance adds its serial behind the open ones, a closing removes its own, and no other happening
-/// opens or closes a connection.
+/// An acceptance adds its serial behind the open ones, a closing removes its own, and no other
+/// happening opens or closes a connection.
 pub fn open_after()
     ensures { OpenAfter }
 {}
@@ -52,8 +53,8 @@ pub fn untaken_is_bounded()
     ensures { UntakenIsBounded }
 {}
 
-/// At most 64 connections are open that don't part as one too many, and at most 64 in all where none is
-/// to be closed.
+/// At most 64 connections are open that don't part as one too many, and at most 64 in all where
+/// none is to be closed.
 pub fn few_are_open()
     ensures { FewAreOpen }
 {}
@@ -79,7 +80,8 @@ pub fn all_queued_where_reached()
     ensures { AllQueuedWhereReached }
 {}
 
-/// Each input event that ran on the way is routed once: to one target, or to the actions of its hotkey.
+/// Each input event that ran on the way is routed once: to one target, or to the actions of its
+/// hotkey.
 pub fn one_for_one_where_reached()
     ensures { OneForOneWhereReached }
 {}
