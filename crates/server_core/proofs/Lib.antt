@@ -17,3 +17,13 @@ pub mod Loops
 pub mod SlowTurns
 pub mod Passed
 pub mod JoinedScreens
+pub mod Steady
+pub mod Indexed
+pub mod ScriptLines
+pub mod ScriptTurns
+pub mod Goodbyes
+pub mod ToldJoined
+pub mod Copies
+pub mod NextLine
+pub mod ActedAll
+pub mod Same

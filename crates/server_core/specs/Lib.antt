@@ -9,3 +9,6 @@ pub mod HandingOut
 pub mod SlowOnes
 pub mod Around
 pub mod Passing
+pub mod Telling
+pub mod NextLine
+pub mod Goodbyes
