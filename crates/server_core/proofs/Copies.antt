@@ -1,5 +1,5 @@
 -- A copy of the script that is kept first and then told of.
-use Rattle.std.specs.Prelude.{◌≡◌, refl, ℕ, Bool, true, false, ◌&&◌, List, [], ◌∷◌, if◌then◌else◌}
+use Rattle.std.specs.Prelude.{◌≡◌, refl, ℕ, Bool, true, false, not, ◌&&◌, List, [], ◌∷◌, if◌then◌else◌}
 use Rattle.std.proofs.Common.{sym, ap, ◌∙◌, subst}
 use Rattle.share_base.specs.Screens.{has}
 use Rattle.share_base.specs.declared.clip_id.ClipId.{ClipId}
@@ -37,6 +37,10 @@ same_screens ts m s = for_each-keeps (λ t. joined_screens t ≡ joined_screens 
 published : (id : ClipId) (bytes : List ℕ) (s : State) → refresh id (route_all Own (joined_clients s) (msg.Grab id 0) (kept id bytes s)) ≡ publish id bytes s
 published id bytes s = ap (refresh id) (set_told id (rules.known s.primary s.sequence bytes (joined_screens s)) (joined_clients s) (msg.Grab id 0) s ∙ ap (λ ns. set_clip id (rules.known s.primary s.sequence bytes ns) (route_all Own (joined_clients s) (msg.Grab id 0) s)) (sym (same_screens (joined_clients s) (msg.Grab id 0) s)))
 
+pub sure : (b : Bool) → not b ≡ false → b ≡ true
+sure true e = refl
+sure false e = sym e
+
 -- a copy that counts
 pub copy-kept : (core : ServerCore) (id : ClipId) (bytes : List ℕ) (set : ℕ) (book : ClipBook) (counts : Bool) → counts ≡ rules.copy_counts core.clips.limit bytes → counts ≡ true → ((n : ℕ) → Reads core (has set n) (λ s. is_screen_joined s n)) → books.FollowsWith set core.clips book (Copied id bytes core.sequence) → Leads core (record core { clips = book }) (kept id bytes)
 copy-kept core id bytes set book counts e is joined follows = λ b s h.
@@ -49,14 +53,3 @@ pub copy-published : (old kept_core told new : ServerCore) (id : ClipId) (bytes 
 copy-published old kept_core told new id bytes sharing counts reads shares e is keeps tells gives = λ b s h.
     let all : (is_sharing s && rules.copy_counts (clip_limit s) bytes) ≡ true = ap (λ (t : Bool). t && rules.copy_counts (clip_limit s) bytes) (sym (reads b s h) ∙ shares) ∙ (ap (λ n. rules.copy_counts n bytes) (sym h.clips_limit) ∙ (sym e ∙ is)) in
     subst (λ (t : Bool). Stands b new (when t (publish id bytes) s)) (sym all) (subst (λ t. Stands b new t) (published id bytes s) (gives b _ (tells b _ (keeps b s h))))
-
--- one that doesn't
-pub copy-unshared : (core : ServerCore) (id : ClipId) (bytes : List ℕ) (sharing : Bool) → Reads core sharing is_sharing → sharing ≡ false → Leads core core (copy id bytes)
-copy-unshared core id bytes sharing reads off = λ b s h. subst (λ (t : Bool). Stands b core (when (t && rules.copy_counts (clip_limit s) bytes) (publish id bytes) s)) (sym (sym (reads b s h) ∙ off)) h
-
-pub copy-beyond : (core : ServerCore) (id : ClipId) (bytes : List ℕ) (counts : Bool) → counts ≡ rules.copy_counts core.clips.limit bytes → counts ≡ false → Leads core core (copy id bytes)
-copy-beyond core id bytes counts e off = λ b s h. subst (λ (t : Bool). Stands b core (when t (publish id bytes) s)) (sym (never (is_sharing s) (rules.copy_counts (clip_limit s) bytes) (ap (λ n. rules.copy_counts n bytes) (sym h.clips_limit) ∙ (sym e ∙ off)))) h
-  where
-    never : (a t : Bool) → t ≡ false → (a && t) ≡ false
-    never true t e = e
-    never false t e = refl

@@ -28,7 +28,7 @@ impl ServerCore {
     pub(crate) fn act_all(&mut self, list: &[Action]) -> Result<(), OutOfMemory>
         ensures { OnOk result ((o : Origin) → Leads self.old self.new (actions.act_all o list.now)) }
     {
-        for action in list.iter() {
+        for action in list {
             self.act(*action)?;
         }
         Ok(())

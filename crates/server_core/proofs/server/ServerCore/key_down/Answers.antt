@@ -17,5 +17,5 @@ returns c = λ number b s h.
     let button = c.args.button.0 in
     let held : State = holding (line.KeyDown id button) s in
     subst (λ (r : Option RuleNo). Stands b c.press.new.self (go number (on_press s r (One s.active (msg.KeyDown id (mask s) button))) held)) (c.key_rule-rule.ensures b s h)
-    (subst (λ n. Stands b c.press.new.self (go number (on_press s c.key_rule-rule.result (One s.active (msg.KeyDown id n button))) held)) (c.mask-message.ensures (inputs_of s) h.pressed)
+    (subst (λ n. Stands b c.press.new.self (go number (on_press s c.key_rule-rule.result (One s.active (msg.KeyDown id n button))) held)) (c.mask.ensures (inputs_of s) h.pressed)
     (c.in_ok-press.ensures number b held (c.hold_key.ensures b s h)))

@@ -3,8 +3,8 @@ use Rattle.std.proofs.Common.{arith, ap}
 use Rattle.server_core.proofs.Goodbyes.{byes-none, byes-more, byes-all}
 use Rattle.server_core.proofs.server.ServerCore.quit.Goals as goal
 
-pub loop-index-start : goal.loop-index-start
-loop-index-start c = byes-none c.args.self.now
+pub loop-index-init : goal.loop-index-init
+loop-index-init c = byes-none c.args.self.now
 
 pub loop-index-preserved : goal.loop-index-preserved
 loop-index-preserved c = byes-more c.args.self.now c.loop-index.self c.say_bye_at.new.self c.loop-index.index c.loop-index.invariant c.in_ok-say_bye_at.ensures

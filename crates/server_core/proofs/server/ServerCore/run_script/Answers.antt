@@ -3,8 +3,8 @@ use Rattle.std.proofs.Common.{arith, ap}
 use Rattle.server_core.proofs.ScriptTurns.{runs-none, runs-more, runs-over, runs-all}
 use Rattle.server_core.proofs.server.ServerCore.run_script.Goals as goal
 
-pub loop-turn-start : goal.loop-turn-start
-loop-turn-start c = runs-none c.args.self.now
+pub loop-turn-init : goal.loop-turn-init
+loop-turn-init c = runs-none c.args.self.now
 
 pub loop-turn-preserved : goal.loop-turn-preserved
 loop-turn-preserved c = runs-more c.args.self.now c.loop-turn.self c.run_next.new.self c.loop-turn.turn c.may_run_next.result c.loop-turn.invariant c.if-not-may_run_next.false c.may_run_next.ensures c.in_ok-run_next.ensures
