@@ -32,8 +32,6 @@ pub mod TellOthers
 pub mod Options
 pub mod Dispatch
 pub mod Steady
-pub mod Steady
-pub mod Indexed
 pub mod ScriptLines
 pub mod ScriptTurns
 pub mod Goodbyes
