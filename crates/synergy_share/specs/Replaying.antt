@@ -28,6 +28,11 @@ pub record Given : Type 0 where
   pub script : Option (List ℕ)
   pub trace : Option (List ℕ)
 
+-- what the files of those names hold
+abbrev pub given_by : (List ℕ → Option (List ℕ)) → List ℕ → List ℕ → List ℕ → Given
+given_by told config script trace =
+    record { config = told config; script = told script; trace = told trace }
+
 -- each end with its cause: there is no configuration, or then no script, or then no trace, and nothing was written and
 -- no further file read; or the server of the three ran over the trace and ended so
 pub data Replays (end : Status) (given : Given) (calls calls' : ℕ) (old new : SinkState) : Type 0 where

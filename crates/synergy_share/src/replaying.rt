@@ -4,7 +4,7 @@ ghost use Rattle.std.specs.Prelude.{◌≡◌, length};
 ghost use Rattle.script_screen.specs.Scripts.{ScreensBelow};
 ghost use Rattle.synergy_share.specs.Causes.{FileCauses};
 ghost use Rattle.synergy_share.specs.Checking.{OverCounts};
-ghost use Rattle.synergy_share.specs.Replaying.{Replays, status_of_run};
+ghost use Rattle.synergy_share.specs.Replaying.{Replays, given_by, status_of_run};
 
 use crate::checking::read_config;
 use crate::status::Status;
@@ -45,11 +45,7 @@ pub fn run_replay<F: Files, K: Sink>(
     out: &mut K,
 ) -> Status
     ensures replays { Replays result
-        (record {
-          config = F.told files.old config.now;
-          script = F.told files.old script.now;
-          trace = F.told files.old trace.now;
-        })
+        (given_by (F.told files.old) config.now script.now trace.now)
         (F.calls files.old) (F.calls files.new) (K.state out.old) (K.state out.new) }
     ensures overs { OverCounts result (F.overs files.old) (F.overs files.new) }
     ensures causes { FileCauses result (F.faults files.old) (F.faults files.new) (K.state out.old)

@@ -6,7 +6,7 @@ ghost use Rattle.command_words.specs.Forms.{Form, Inject, Check, Replay, Names, 
 ghost use Rattle.synergy_share.specs.Words.{Leaves, way_of};
 ghost use Rattle.synergy_share.specs.Commands.{Reads, Stops, Releases};
 ghost use Rattle.synergy_share.specs.Checking.{Checks, ReadsOnce, OverCounts};
-ghost use Rattle.synergy_share.specs.Replaying.{Replays};
+ghost use Rattle.synergy_share.specs.Replaying.{Replays, given_by};
 ghost use Rattle.synergy_share.specs.Causes.{AllCauses};
 
 use crate::checking::run_check;
@@ -44,12 +44,7 @@ pub fn run<F: Files, S: Source, K: Sink>(
         → OverCounts result (F.overs files.old) (F.overs files.new) }
     ensures replays { (config script trace : List ℕ)
         → Names (Replay config script trace) words.now
-        → Replays result
-        (record {
-          config = F.told files.old config;
-          script = F.told files.old script;
-          trace = F.told files.old trace;
-        })
+        → Replays result (given_by (F.told files.old) config script trace)
         (F.calls files.old) (F.calls files.new) (K.state out.old) (K.state out.new) }
     ensures replay_overs { (config script trace : List ℕ)
         → Names (Replay config script trace) words.now
