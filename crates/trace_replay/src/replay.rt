@@ -50,5 +50,5 @@ pub fn replay<K: Sink>(
     let Ok(mut core) = ServerCore::new(config, script, 0) else {
         return ServeEnd::OutOfMemory;
     };
-    serve(&mut core, &mut hub, out, turns)
+    serve(alloc, &mut core, &mut hub, out, turns)
 }
