@@ -111,12 +111,7 @@ impl Table {
     /// Reads the next piece of the bytes of the connection of that serial, which are fewer than 2^63 in
     /// all, and returns what it brings. Of another serial nothing is read. After `OutOfMemory` some of
     /// the piece may be read.
-    pub fn read(
-        &mut self,
-        alloc: Global,
-        serial: u64,
-        piece: &[u8],
-    ) -> Result<Reading, OutOfMemory>
+    pub fn read(&mut self, alloc: Global, serial: u64, piece: &[u8]) -> Result<Reading, OutOfMemory>
         requires { IfSome (find (is_of serial) self.old)
             (λ c. c.reader.total + length piece.now < 2 ^ 63) }
         ensures { IfOk result

@@ -60,7 +60,7 @@ fn turn<E: Engine, H: Hub, K: Sink>(
     ensures turns { (old : SinkState) (r : Course H) → r.failed ≡ false
         → Logged E.serves H.state H.leads r core.old hub.old watch.old old (K.state out.old) IsWaiting
         → AfterTurn E.serves H.state H.leads r result core.new hub.new watch.new
-            old (K.state out.new) IsWaiting }
+        old (K.state out.new) IsWaiting }
 {
     wait_once(core, hub, watch, ready)?;
     end_step(ask_moment(core, hub, watch), core, out)?;

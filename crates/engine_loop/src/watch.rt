@@ -157,8 +157,7 @@ impl Watch {
         ensures { (totals : ℕ → ℕ) → total ≡ totals serial
             → result ≡ has_flag (λ f. f.writes) serial (flags_of totals self.now) }
     {
-        self.streams
-            .iter()
-            .any(|stream| stream.serial == serial && (stream.writes || stream.seen < total))
+        self.streams.iter().any(|stream| stream.serial == serial
+            && (stream.writes || stream.seen < total))
     }
 }

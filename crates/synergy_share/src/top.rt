@@ -61,11 +61,13 @@ pub fn run<F: Files, S: Source, K: Sink>(
         Some(Command::Inject) => run_inject(alloc, input, out),
         Some(Command::Show(end)) => run_show(alloc, end, input, out),
         Some(Command::Check(config)) => run_check(alloc, config, files, out),
-        Some(Command::Replay {
-            config,
-            script,
-            trace,
-        }) => run_replay(alloc, config, script, trace, files, out),
+        Some(
+            Command::Replay {
+                config,
+                script,
+                trace,
+            },
+        ) => run_replay(alloc, config, script, trace, files, out),
         None => Status::Usage,
     }
 }
