@@ -1,3 +1,4 @@
 pub mod FirstOf
 pub mod Pairs
 pub mod Standing
+pub mod Places

@@ -3,3 +3,4 @@ pub mod Calls
 pub mod FirstOf
 pub mod Tables
 pub mod Standing
+pub mod Deadlines

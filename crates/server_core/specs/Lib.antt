@@ -7,3 +7,5 @@ pub mod Shapes
 pub mod Sending
 pub mod HandingOut
 pub mod SlowOnes
+pub mod Timing
+pub mod DueMoments

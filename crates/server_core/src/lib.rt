@@ -11,6 +11,7 @@ mod events;
 mod log_lines;
 mod partings;
 mod primary;
+mod readings;
 mod routes;
 mod routing;
 mod running;
@@ -20,6 +21,7 @@ mod slow;
 mod start;
 mod switching;
 mod target;
+mod timers;
 
 pub use primary::{PrimaryShape, ServedScript};
 pub use server::ServerCore;
