@@ -2,3 +2,4 @@ pub mod FirstOf
 pub mod Pairs
 pub mod Standing
 pub mod Places
+pub mod Deadlines

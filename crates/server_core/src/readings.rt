@@ -1,5 +1,5 @@
-//! What is read off a server: who is read from and who is to be closed, when something is due, and
-//! whether the run is over.
+//! What is read off a server: which connection is to be closed, when something is due, and which
+//! screen is active.
 
 ghost use Rattle.std.specs.Prelude.{◌≡◌, ◌<◌, fold, min};
 ghost use Rattle.std.specs.Option.{option_to_list};
@@ -24,41 +24,6 @@ fn earlier(moment: u64, other: Option<u64>) -> u64
 }
 
 impl ServerCore {
-    /// Tells whether the connection of that serial, which is open, is to be read from: until it
-    /// parts.
-    pub fn reads(&self, serial: u64) -> bool
-        ensures { Reads self.now result (λ s. readings.reads s serial) }
-    {
-        self.lives(serial)
-    }
-
-    /// Tells whether connections are to be accepted: until the script quits.
-    pub fn accepts(&self) -> bool
-        ensures { Reads self.now result readings.accepts }
-    {
-        !self.has_quit
-    }
-
-    /// Returns the least serial of a connection that is to be closed now: it is parting, and nothing
-    /// is to be taken any more, or its time is over.
-    pub fn closing(&self) -> Option<u64>
-        ensures { Reads self.now result readings.closing }
-    {
-        for connection in self.table.as_slice() {
-            if connection.is_to_close(self.at) {
-                return Some(connection.serial());
-            }
-        }
-        None
-    }
-
-    /// Tells whether the script has quit and no connection is left.
-    pub fn over(&self) -> bool
-        ensures { Reads self.now result readings.is_over }
-    {
-        self.has_quit && self.table.as_slice().is_empty()
-    }
-
     /// Returns the active screen, a number below 64.
     pub fn active(&self) -> ScreenNo
         ensures screen { Reads self.now result.0 readings.active_screen }
@@ -67,19 +32,31 @@ impl ServerCore {
         self.screen_of(self.active)
     }
 
-    /// Returns how often a screen was entered, as messages count it: at most 4,294,967,295.
+    /// Returns the sequence number of the latest entering: how many there were, at most
+    /// 4,294,967,295.
     pub fn sequence(&self) -> u32
         ensures { Reads self.now result (λ s. s.sequence) }
     {
         self.sequence
     }
 
-    /// Returns the server's moment, in milliseconds: the latest that it was told, at most
-    /// `LAST_MOMENT`.
-    pub fn at(&self) -> u64
-        ensures { Reads self.now result (λ s. s.at) }
+    // Tells whether the script has quit and no connection is left.
+    pub(crate) fn is_over(&self) -> bool
+        ensures { Reads self.now result readings.is_over }
     {
-        self.at
+        self.has_quit && self.table.as_slice().is_empty()
+    }
+
+    // Returns the least serial of a connection that is to be closed now.
+    pub(crate) fn first_closing(&self) -> Option<u64>
+        ensures { Reads self.now result readings.closing }
+    {
+        for connection in self.table.as_slice() {
+            if connection.is_to_close(self.at) {
+                return Some(connection.serial());
+            }
+        }
+        None
     }
 
     // Returns the least moment at which something of a connection is due.
