@@ -1,5 +1,6 @@
 -- The surroundings of the cursor, and the states of the machine that they show.
 use Rattle.std.specs.Prelude.{◌≡◌, ℕ, ◌<◌, not, ◌==◌, length}
+use Rattle.share_base.specs.declared.screen_set.TheConstants.{MOST_SCREENS}
 use Rattle.share_base.specs.Screens.{has}
 use Rattle.share_base.specs.Shapes.{IsScreenShape}
 use Rattle.screen_config.specs.Configurations.{Configuration}
@@ -22,9 +23,9 @@ pub record Shows (r : Surroundings) (config : Configuration) (s : State) : Type 
   pub has_mouse_down : r.has_mouse_down ≡ not (length s.buttons == 0)
   pub mods_are : r.mods.0 ≡ mods s
 
--- the screen is one of the configuration, its shape is one that screens have, and the cursor is at
--- a pixel
-pub record IsPlaced (r : Surroundings) (config : Configuration) : Type 0 where
-  pub screen : r.screen.0 < length config.screens
+-- the screen has a number that screens have, its shape is one that screens have, and the cursor is
+-- at a pixel
+pub record IsPlaced (r : Surroundings) : Type 0 where
+  pub screen : r.screen.0 < MOST_SCREENS
   pub shape : IsScreenShape r.shape
   pub cursor : IsPixel r.cursor

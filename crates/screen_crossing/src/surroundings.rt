@@ -3,6 +3,7 @@
 ghost use Rattle.std.specs.Prelude.{◌≡◌, pos, ◌<ℤ◌, IfSome};
 ghost use Rattle.screen_links.specs.Walks.{IsPlace};
 ghost use Rattle.edge_cross.specs.Edges.{axis_of, side_length};
+ghost use Rattle.screen_config.specs.Globals.{corners_of};
 ghost use Rattle.machine.specs.States.{State};
 ghost use Rattle.machine.specs.Edges as edges;
 ghost use Rattle.machine.specs.Edges.{edge_at_cursor};
@@ -17,7 +18,7 @@ use modifier_map::ModClass;
 use option_table::OptionName;
 use screen_config::Config;
 use screen_links::{Landing, place};
-use share_base::{Mask, ScreenNo, ScreenSet, Shape, Side};
+use share_base::{Corners, Mask, ScreenNo, ScreenSet, Shape, Side};
 
 /// No edge is crossed at this sequence number, so that it never has to rise.
 const LAST_SEQUENCE: u32 = 4_294_967_295;
@@ -49,7 +50,7 @@ impl Surroundings {
     /// the upper or lower one. `None` if the point lies inside the screen, or if no side that it
     /// has passed is open and leads to a joined screen.
     pub fn first_way(&self, config: &Config, point: Point) -> Option<Way>
-        requires { IsPlaced self.now config.now }
+        requires { IsPlaced self.now }
         ensures way { (s : State) → Shows self.now config.now s
             → ways_of result ≡ edges.first_way s (point_of point) }
         ensures within { IfSome result (λ w. IsPlace w.landing) }
@@ -63,7 +64,7 @@ impl Surroundings {
     /// Returns the way out on `side` at the cursor. `None` if the edge is blocked or leads to no
     /// joined screen.
     pub fn way_at_cursor(&self, config: &Config, side: Side) -> Option<Way>
-        requires { IsPlaced self.now config.now }
+        requires { IsPlaced self.now }
         ensures way { (s : State) → Shows self.now config.now s
             → ways_of result ≡ edges.way s (edge_at_cursor s side) }
         ensures within { IfSome result (λ w. IsPlace w.landing) }
@@ -74,7 +75,7 @@ impl Surroundings {
     /// Returns the way out at an edge, whose pixel is below the side's length. `None` if the edge
     /// is blocked or leads to no joined screen.
     pub fn way_at(&self, config: &Config, edge: Edge) -> Option<Way>
-        requires placed { IsPlaced self.now config.now }
+        requires placed { IsPlaced self.now }
         requires within { pos edge.p <ℤ side_length (axis_of edge.side) self.now.shape }
         ensures way { (s : State) → Shows self.now config.now s
             → ways_of result ≡ edges.way s edge }
@@ -92,10 +93,21 @@ impl Surroundings {
         }
     }
 
+    /// Returns where the edge on `side` at the cursor leads, past screens that aren't joined, even
+    /// where it is blocked. `None` if it leads to no joined screen.
+    pub fn landing_at_cursor(&self, config: &Config, side: Side) -> Option<Landing>
+        requires { IsPlaced self.now }
+        ensures landing { (s : State) → Shows self.now config.now s
+            → result ≡ edges.landing s (edge_at_cursor s side) }
+        ensures within { IfSome result IsPlace }
+    {
+        self.landing(config, edge_at(&self.shape, self.cursor, side))
+    }
+
     /// Returns whether an edge is blocked: by the lock, at the last sequence number, by a button of
     /// the mouse that is down, by a corner, or by a modifier that isn't held.
     pub fn is_blocked(&self, config: &Config, edge: Edge) -> bool
-        requires { IsPlaced self.now config.now }
+        requires { IsPlaced self.now }
         ensures { (s : State) → Shows self.now config.now s
             → result ≡ edges.is_blocked s edge }
     {
@@ -106,7 +118,7 @@ impl Surroundings {
     }
 
     fn way_on(&self, config: &Config, point: Point, axis: Axis) -> Option<Way>
-        requires { IsPlaced self.now config.now }
+        requires { IsPlaced self.now }
         ensures way { (s : State) → Shows self.now config.now s
             → ways_of result ≡ edges.way_on s (point_of point) axis }
         ensures within { IfSome result (λ w. IsPlace w.landing) }
@@ -118,16 +130,31 @@ impl Surroundings {
     }
 
     fn is_at_corner(&self, config: &Config, edge: Edge) -> bool
-        requires { IsPlaced self.now config.now }
+        requires { IsPlaced self.now }
         ensures { (s : State) → Shows self.now config.now s
             → result ≡ edges.is_at_corner s edge }
     {
         in_corner(
-            config.corners(self.screen),
+            self.corners(config),
             edge.side,
             edge.p,
             side_pixels(&self.shape, edge.side),
         )
+    }
+
+    /// Returns the corners of the screen; of one that the configuration doesn't have, those for all
+    /// screens.
+    fn corners(&self, config: &Config) -> Corners
+        ensures { result ≡ corners_of config.now self.now.screen.0 }
+    {
+        if self.screen.0 < config.count() {
+            return config.corners(self.screen);
+        }
+        let globals = config.globals();
+        Corners {
+            set: globals.switch_corners,
+            size: globals.switch_corner_size,
+        }
     }
 
     fn lacks_modifier(&self, config: &Config) -> bool
@@ -150,7 +177,7 @@ impl Surroundings {
 
     /// Returns where an edge leads, past screens that aren't joined.
     fn landing(&self, config: &Config, edge: Edge) -> Option<Landing>
-        requires placed { IsPlaced self.now config.now }
+        requires placed { IsPlaced self.now }
         requires within { pos edge.p <ℤ side_length (axis_of edge.side) self.now.shape }
         ensures landing { (s : State) → Shows self.now config.now s
             → result ≡ edges.landing s edge }

@@ -97,9 +97,6 @@ const ROWS: [Row; 9] = [
 ];
 
 fn landing(config: &Config, row: Row) -> Option<u32> {
-    if config.count() != 2 {
-        return None;
-    }
     let at = Surroundings {
         screen: DESK,
         shape: DESK_SHAPE,

@@ -19,3 +19,5 @@ pub mod SameSerials
 pub mod Timed
 pub mod DueOnes
 pub mod Come
+pub mod Passed
+pub mod Joined

@@ -9,3 +9,5 @@ pub mod HandingOut
 pub mod SlowOnes
 pub mod Timing
 pub mod DueMoments
+pub mod Around
+pub mod Passing

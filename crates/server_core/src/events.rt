@@ -7,6 +7,7 @@ ghost use Rattle.machine.specs.Events as events;
 ghost use Rattle.screen_crossing.specs.Points.{point_of, IsPixel};
 ghost use Rattle.server_core.specs.Leading.{Leads};
 
+use crate::cursor::Cursor;
 use crate::server::ServerCore;
 use screen_crossing::Point;
 use share_base::{Button, KeyId, MouseButton};
@@ -56,6 +57,6 @@ impl ServerCore {
         requires { IsPixel point }
         ensures { Leads self.old self.new (λ s. record s { cursor = point_of point }) }
     {
-        self.cursor = point;
+        self.cursor = Cursor::new(point);
     }
 }

@@ -7,8 +7,13 @@
 
 mod actions;
 mod clipboards;
+mod clock;
+mod cursor;
 mod events;
+mod gate;
+mod joined;
 mod log_lines;
+mod motion;
 mod partings;
 mod primary;
 mod readings;
@@ -22,7 +27,10 @@ mod start;
 mod switching;
 mod target;
 mod timers;
+mod ways;
 
+pub use clock::Clock;
+pub use cursor::Cursor;
 pub use primary::{PrimaryShape, ServedScript};
 pub use server::ServerCore;
 pub use target::Target;

@@ -32,7 +32,7 @@ impl ServerCore {
         ensures { OnOk result (LeadsWhere (λ s. screens.lives s serial ≡ true) self.old self.new
             (partings.marked cause serial)) }
     {
-        let now = self.at;
+        let now = self.at.moment();
         self.table.part(serial, cause, now);
         self.log_part(serial, cause)?;
         Ok(())

@@ -1,12 +1,14 @@
 //! The server.
 
+use crate::clock::Clock;
+use crate::cursor::Cursor;
 use crate::primary::{PrimaryShape, ServedScript};
 use crate::target::Target;
 use clip_chunks::ClipBook;
 use connection_table::Table;
 use pressed_inputs::Pressed;
 use screen_config::Config;
-use screen_crossing::{Point, SwitchGate};
+use screen_crossing::SwitchGate;
 use server_log::{Log, Primary};
 
 /// A server: its configuration and its script, the connections, the active screen with the cursor, what
@@ -19,10 +21,10 @@ pub struct ServerCore {
     pub(crate) ran: usize,
     pub(crate) sleeps_until: Option<u64>,
     pub(crate) has_quit: bool,
-    pub(crate) at: u64,
+    pub(crate) at: Clock,
     pub(crate) table: Table,
     pub(crate) active: Target,
-    pub(crate) cursor: Point,
+    pub(crate) cursor: Cursor,
     pub(crate) sequence: u32,
     pub(crate) is_locked: bool,
     pub(crate) gate: SwitchGate,

@@ -8,6 +8,8 @@ ghost use Rattle.machine.specs.Acceptance.{start};
 ghost use Rattle.server_core.specs.Scripts.{script_of};
 ghost use Rattle.server_core.specs.Standing.{Stands, nothing_told};
 
+use crate::clock::Clock;
+use crate::cursor::Cursor;
 use crate::primary::{PrimaryShape, ServedScript};
 use crate::server::ServerCore;
 use crate::target::Target;
@@ -18,7 +20,7 @@ use screen_config::Config;
 use screen_crossing::{SwitchGate, middle};
 use script_screen::Script;
 use server_log::{Log, Primary};
-use share_base::{OutOfMemory, Shape, moment_of};
+use share_base::{OutOfMemory, Shape};
 
 /// How many bytes a unit of the option on shared clipboards has.
 const SHARING_UNIT: u32 = 1024;
@@ -52,9 +54,10 @@ impl ServerCore {
         let screen = script.primary();
         let script = ServedScript::new(script);
         let primary_shape = PrimaryShape::new(shape);
-        let at = moment_of(now);
+        let at = Clock::new(now);
         let table = Table::new(alloc);
-        let cursor = middle(&shape);
+        let point = middle(&shape);
+        let cursor = Cursor::new(point);
         let gate = SwitchGate::new(&config);
         let pressed = Pressed::new();
         let clips = ClipBook::new(alloc, screen, limit);

@@ -7,6 +7,7 @@ ghost use Rattle.screen_crossing.specs.Points.{point_of, IsPixel};
 ghost use Rattle.server_core.specs.Targets.{meant, IsThere};
 ghost use Rattle.server_core.specs.Leading.{Leads, LeadsWhere};
 
+use crate::cursor::Cursor;
 use crate::server::ServerCore;
 use crate::target::Target;
 use message_codec::Msg;
@@ -14,7 +15,7 @@ use screen_crossing::{Point, middle};
 use share_base::OutOfMemory;
 
 // A coordinate of a pixel, as a message has it.
-fn coordinate(n: i32) -> i16
+pub(crate) fn coordinate(n: i32) -> i16
     requires low { negsuc 32767 ≤ℤ n }
     requires high { n ≤ℤ pos 32767 }
     ensures { result ≡ n }
@@ -57,7 +58,7 @@ impl ServerCore {
             (switching.at_screen (meant to) (point_of point)) }
     {
         self.active = to;
-        self.cursor = point;
+        self.cursor = Cursor::new(point);
         self.sequence = self.sequence.saturating_add(1);
         self.gate.reset();
     }

@@ -12,9 +12,8 @@ use Rattle.screen_crossing.proofs.surroundings.Surroundings.landing.Goals as goa
 pub returns-clause-landing : goal.returns-clause-landing
 returns-clause-landing c = λ s shows.
     let from : Landing = record { screen = c.args.self.now.screen; t = c.place-t.result } in
-    let known : c.args.self.now.screen.0 < 64 = omega (arith, c.requires.placed.screen, c.assure_sound.ensures.screens) in
     let law : Lands c.args.config.now.links c.args.self.now.joined c.args.edge.side from (landing_across c.args.config.now.links (has c.args.self.now.joined) c.args.edge.side from) =
-    landing_is_across c.args.config.now.links c.args.self.now.joined c.args.edge.side from c.assure_sound.ensures.links known in
+    landing_is_across c.args.config.now.links c.args.self.now.joined c.args.edge.side from c.assure_sound.ensures.links c.requires.placed.screen in
     let walks : Lands c.args.config.now.links c.args.self.now.joined c.args.edge.side from c.across.result =
     subst (λ (links : List Link). Lands links c.args.self.now.joined c.args.edge.side from c.across.result) c.links.ensures c.across.ensures.walks in
     same_option _ _ (λ l. (λ e. (law l).1 ((walks l).0 e), λ e. (walks l).1 ((law l).0 e)))

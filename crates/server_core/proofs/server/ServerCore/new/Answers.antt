@@ -9,6 +9,7 @@ use Rattle.machine.specs.Acceptance.{start}
 use Rattle.machine.specs.Screens.{middle}
 use Rattle.connection_table.specs.Standing.{AreFor}
 use Rattle.script_screen.specs.Scripts.{ScriptText}
+use Rattle.screen_crossing.specs.Points.{point_of}
 use Rattle.server_core.specs.Lines.{line_of}
 use Rattle.server_core.specs.Scripts.{script_of}
 use Rattle.server_core.specs.Standing.{nothing_told, around}
@@ -26,11 +27,11 @@ returns c =
       ran = refl;
       sleeps_until = refl;
       has_quit = refl;
-      at = c.moment_of-at.ensures.value;
+      at = c.new-at.ensures;
       connections = subst (λ ks. AreFor (around nothing_told (start c.args.config (script_of c.args.script) c.args.now)) ks []) (sym c.new-table.ensures) tt;
       active = refl;
       there = tt;
-      cursor = c.middle-cursor.ensures.value ∙ ap middle shape;
+      cursor = ap point_of c.new-cursor.ensures ∙ c.middle-point.ensures.value ∙ ap middle shape;
       sequence = refl;
       is_locked = refl;
       gate = c.new-gate.ensures;
