@@ -19,5 +19,14 @@ pub mod SameSerials
 pub mod Timed
 pub mod DueOnes
 pub mod Come
+pub mod Steady
+pub mod Indexed
+pub mod ScriptLines
+pub mod ScriptTurns
+pub mod Goodbyes
+pub mod ToldJoined
+pub mod Copies
+pub mod NextLine
+pub mod Sleeping
 pub mod Passed
 pub mod Joined

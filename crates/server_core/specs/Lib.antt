@@ -9,5 +9,8 @@ pub mod HandingOut
 pub mod SlowOnes
 pub mod Timing
 pub mod DueMoments
+pub mod Telling
+pub mod NextLine
+pub mod Goodbyes
 pub mod Around
 pub mod Passing

@@ -8,9 +8,11 @@
 mod actions;
 mod clipboards;
 mod clock;
+mod copying;
 mod cursor;
 mod events;
 mod gate;
+mod inputs;
 mod joined;
 mod log_lines;
 mod motion;
@@ -21,6 +23,8 @@ mod routes;
 mod routing;
 mod running;
 mod screens;
+#[cfg(test)]
+mod script_tests;
 mod server;
 mod slow;
 mod start;

@@ -2,6 +2,7 @@
 
 ghost use Rattle.std.specs.Prelude.{◌≡◌, ◌<◌};
 ghost use Rattle.share_base.specs.Shapes.{IsScreenShape};
+ghost use Rattle.script_screen.specs.Scripts.{IsScript};
 
 use script_screen::{Script, ScriptLine};
 use share_base::{ScreenNo, Shape};
@@ -41,9 +42,10 @@ impl ServedScript {
         self.script.primary()
     }
 
-    /// The lines, in their order.
+    /// The lines, in their order. Their numbers are in their ranges.
     pub fn lines(&self) -> &[ScriptLine]
-        ensures { result.now ≡ self.now.lines }
+        ensures lines { result.now ≡ self.now.lines }
+        ensures sound { IsScript self.now }
     {
         self.script.lines()
     }

@@ -1,0 +1,41 @@
+-- Lists that are gone through by index.
+use Rattle.std.specs.Prelude.{◌≡◌, refl, ℕ, zero, suc, ◌+◌, ◌≤◌, List, [], ◌∷◌, ◌++◌, length, map, take, drop, slice_get, Option, Some, None}
+use Rattle.std.specs.List.{filter_map, cons_option}
+use Rattle.std.specs.Option.{option_map, option_to_list}
+use Rattle.std.proofs.Common.{arith, sym, ap, ◌∙◌, add-one}
+use Rattle.std.proofs.lemmas.List.{take_all}
+use Rattle.machine.specs.Combining.{for_each}
+use Rattle.machine.specs.Connections.{Connection}
+use Rattle.connection_table.specs.declared.connection.Connection as kept
+use Rattle.connection_table.specs.Standing.{Pairs}
+use Rattle.connection_table.proofs.Pairs.{FoundPair}
+use Rattle.server_core.proofs.Loops.{for_each-append}
+
+one_more : {A : Type 0} (xs : List A) (i : ℕ) → take (suc i) xs ≡ take i xs ++ option_to_list (slice_get xs i)
+one_more [] zero = refl
+one_more [] (suc i) = refl
+one_more (x ∷ xs) zero = refl
+one_more (x ∷ xs) (suc i) = ap (λ ys. x ∷ ys) (one_more xs i)
+
+pub take-one : {A : Type 0} (xs : List A) (i : ℕ) → take (i + 1) xs ≡ take i xs ++ option_to_list (slice_get xs i)
+take-one xs i = ap (λ n. take n xs) (add-one i) ∙ one_more xs i
+
+-- the rule for one more of the list
+pub for_each-one : {A S : Type 0} (xs : List A) (i : ℕ) (rule : A → S → S) (s : S) → for_each (take (i + 1) xs) rule s ≡ for_each (option_to_list (slice_get xs i)) rule (for_each (take i xs) rule s)
+for_each-one xs i rule s = ap (λ ys. for_each ys rule s) (take-one xs i) ∙ for_each-append (take i xs) (option_to_list (slice_get xs i)) rule s
+
+pub filter_map-append : {A B : Type 0} (f : A → Option B) (xs ys : List A) → filter_map f (xs ++ ys) ≡ filter_map f xs ++ filter_map f ys
+filter_map-append f [] ys = refl
+filter_map-append f (x ∷ xs) ys = by (f x) (filter_map-append f xs ys)
+  where
+    by : {B : Type 0} (o : Option B) {us vs ws : List B} → us ≡ vs ++ ws → cons_option o us ≡ cons_option o vs ++ ws
+    by None e = e
+    by (Some y) e = ap (λ zs. y ∷ zs) e
+
+-- the connections of one index stand for one another
+pub pairs-at : (R : kept.Connection → Connection → Type 0) (low : ℕ) (ks : List kept.Connection) (cs : List Connection) (i : ℕ) → Pairs R low ks cs → FoundPair R (slice_get ks i) (slice_get cs i)
+pairs-at R low [] [] i h = tt
+pairs-at R low [] (c ∷ cs) i h = absurd h
+pairs-at R low (k ∷ ks) [] i h = absurd h
+pairs-at R low (k ∷ ks) (c ∷ cs) zero h = h.1
+pairs-at R low (k ∷ ks) (c ∷ cs) (suc i) h = pairs-at R c.serial ks cs i h.2
