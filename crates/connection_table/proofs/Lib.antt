@@ -1,5 +1,7 @@
 pub mod FirstOf
 pub mod Pairs
+pub mod PartsTaken
 pub mod Standing
 pub mod Places
 pub mod Deadlines
+pub mod Advancing

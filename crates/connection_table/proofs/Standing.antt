@@ -35,7 +35,9 @@ stands-sent : (a : Surroundings) (o : Origin) (m : Msg) (k l : kept.Connection) 
 stands-sent a o m k l c h s = subst (λ x. StandsFor (told (entry_of o c.serial m c.taken) a) x c) (sym s.rest) (record {
   serial = h.serial;
   phase = h.phase;
+  known = h.known;
   role = h.role;
+  heard = h.heard;
   reader = h.reader;
   clipboard = h.clipboard;
   selection = h.selection;
@@ -50,7 +52,9 @@ pub stands-other : (a : Surroundings) (e : Entry) (k : kept.Connection) (c : Con
 stands-other a e k c other h = record {
   serial = h.serial;
   phase = h.phase;
+  known = h.known;
   role = h.role;
+  heard = h.heard;
   reader = h.reader;
   clipboard = h.clipboard;
   selection = h.selection;
@@ -74,8 +78,10 @@ stands-parted : (a : Surroundings) (cause : PartCause) (now : ℕ) (k l : kept.C
 stands-parted a cause now k l c on h p = subst (λ x. StandsFor a x (parted cause now c)) (sym p.rest) (record {
   serial = h.serial;
   phase = p.phase ∙ (ap (parted_phase cause now) h.phase ∙ parted-is cause now c.phase on);
+  known = tt;
   role = h.role;
-  reader = h.reader;
+  heard = λ e. absurd (let x : ⊥ = cc in x);
+  reader = λ e. absurd (let x : ⊥ = cc in x);
   clipboard = h.clipboard;
   selection = h.selection;
   queue = p.queue a.routed c.serial h.queue;
@@ -88,7 +94,9 @@ stands-dropped : (a : Surroundings) (k l : kept.Connection) (c : Connection) →
 stands-dropped a k l c off h p = subst (λ x. StandsFor a x (drops c)) (sym p.rest) (record {
   serial = h.serial;
   phase = h.phase;
+  known = h.known;
   role = h.role;
+  heard = h.heard;
   reader = h.reader;
   clipboard = h.clipboard;
   selection = h.selection;
@@ -102,7 +110,9 @@ stands-taken : (a : Surroundings) (count : ℕ) (k l : kept.Connection) (c : Con
 stands-taken a count k l c h p = subst (λ x. StandsFor a x (takes count c)) (sym p.rest) (record {
   serial = h.serial;
   phase = h.phase;
+  known = h.known;
   role = h.role;
+  heard = h.heard;
   reader = h.reader;
   clipboard = h.clipboard;
   selection = h.selection;

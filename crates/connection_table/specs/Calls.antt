@@ -6,6 +6,7 @@ use Rattle.message_reader.specs.Representation.{Represents}
 use Rattle.hello_states.specs.declared.part_cause.PartCause.{PartCause}
 use Rattle.hello_states.specs.Causes.{drops_queue}
 use Rattle.hello_states.specs.Handshake.{greeting_at}
+use Rattle.hello_states.specs.Phases as phases
 use Rattle.machine.specs.Targets.{Entry}
 use Rattle.send_queue.specs.declared.pushed.Pushed.{Pushed}
 use Rattle.send_queue.specs.QueueParts.{QueueParts}
@@ -44,6 +45,11 @@ pub record Parts (cause : PartCause) (now : ℕ) (old new : Connection) : Type 0
   pub taken : new.queue.taken ≡ old.queue.taken
   pub discarded : new.queue.is_discarded ≡ (drops_queue cause || old.queue.is_discarded)
   pub rest : new ≡ record old { phase = new.phase; queue = new.queue }
+
+-- it comes into the phase that follows
+pub record Advances (next : phases.Phase → phases.Phase) (old new : Connection) : Type 0 where
+  pub phase : phase_of new.phase ≡ next (phase_of old.phase)
+  pub rest : new ≡ record old { phase = new.phase }
 
 -- what is queued and not taken is dropped
 pub record Drops (old new : Connection) : Type 0 where

@@ -1,5 +1,6 @@
 pub mod PhaseOf
 pub mod Calls
+pub mod PartsTaken
 pub mod FirstOf
 pub mod Tables
 pub mod Standing

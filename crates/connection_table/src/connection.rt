@@ -1,20 +1,25 @@
 //! One connection.
 
-ghost use Rattle.std.specs.Prelude.{◌≡◌, ◌≤◌, ◌<◌, ◌+◌, ◌^◌, [], None, length, not, OnOk, OnErr};
+ghost use Rattle.std.specs.Prelude.{◌≡◌, ◌≤◌, ◌<◌, ◌+◌, ◌^◌, [], None, length, not, IfOk, OnOk, OnErr};
 ghost use Rattle.message_codec.specs.Spelling.{body_of};
 ghost use Rattle.wire_frames.specs.declared.limits.TheConstants.{BODY_LIMIT};
-ghost use Rattle.hello_states.specs.Phases.{is_parting};
+ghost use Rattle.share_base.specs.Shapes.{IsScreenShape};
+ghost use Rattle.share_base.specs.declared.screen_set.TheConstants.{MOST_SCREENS};
+ghost use Rattle.hello_states.specs.Phases.{is_parting, after_beat_in, after_hearing_in};
+ghost use Rattle.hello_states.specs.Advancing.{admitted_as, joined_with, reshaped_to};
+ghost use Rattle.clip_chunks.specs.Assemblies.{whole_in};
 ghost use Rattle.connection_table.specs.PhaseOf.{phase_of};
 ghost use Rattle.connection_table.specs.Tables.{is_joined_as, is_too_slow};
-ghost use Rattle.connection_table.specs.Calls.{Begins, Sends, Parts, Drops, Takes};
+ghost use Rattle.connection_table.specs.Calls.{Begins, Sends, Parts, Drops, Takes, Advances};
+ghost use Rattle.connection_table.specs.PartsTaken.{TakesPart};
 
 use crate::phase::Phase;
-use clip_chunks::Assembly;
+use clip_chunks::{Assembly, Took};
 use hello_states::{Greeting, PartCause, Parting};
-use message_codec::Msg;
+use message_codec::{ClipMark, Msg};
 use message_reader::{MessageReader, Role};
 use send_queue::SendQueue;
-use share_base::{OutOfMemory, ScreenNo};
+use share_base::{ClipId, Octets, OutOfMemory, ScreenNo, Shape};
 use std::alloc::Global;
 use std::mem;
 
@@ -106,10 +111,80 @@ impl Connection {
     pub(crate) fn part(&mut self, cause: PartCause, now: u64)
         ensures { Parts cause now self.old self.new }
     {
-        let passing = Phase::Greeting(Greeting::begin(self.serial, now));
-        self.phase = mem::replace(&mut self.phase, passing).part(cause, now);
+        self.phase = self.take_phase().part(cause, now);
         if cause.drops_queue() {
             self.queue.discard();
+        }
+    }
+
+    // Counts a beat as sent at that moment, if the connection is joined and a beat is due.
+    pub(crate) fn beat(&mut self, now: u64)
+        ensures { Advances (λ p. after_beat_in p now) self.old self.new }
+    {
+        self.phase = self.take_phase().beaten(now);
+    }
+
+    // Counts a whole message as heard at that moment, if the connection is joined.
+    pub(crate) fn hear(&mut self, now: u64)
+        ensures { Advances (λ p. after_hearing_in p now) self.old self.new }
+    {
+        self.phase = self.take_phase().heard(now);
+    }
+
+    // Admits the connection as that screen, if it is to answer. Its keep-alive will have that rate.
+    pub(crate) fn admit(&mut self, screen: ScreenNo, rate: u32)
+        requires { screen.0 < MOST_SCREENS }
+        ensures { Advances (admitted_as screen.0 rate) self.old self.new }
+    {
+        self.phase = self.take_phase().admitted(screen, rate);
+    }
+
+    // Joins the connection with that shape at that moment, if its shape was asked.
+    pub(crate) fn join(&mut self, shape: Shape, now: u64)
+        requires { IsScreenShape shape }
+        ensures { Advances (joined_with shape now) self.old self.new }
+    {
+        self.phase = self.take_phase().joined(shape, now);
+    }
+
+    // Gives the screen another shape at that moment, if the connection is joined.
+    pub(crate) fn reshape(&mut self, shape: Shape, now: u64)
+        requires { IsScreenShape shape }
+        ensures { Advances (reshaped_to shape now) self.old self.new }
+    {
+        self.phase = self.take_phase().reshaped(shape, now);
+    }
+
+    // Takes the phase out, for another one to be put in.
+    fn take_phase(&mut self) -> Phase
+        ensures phase { result ≡ self.old.phase }
+        ensures rest { self.new ≡ record self.old { phase = self.new.phase } }
+    {
+        let passing = Phase::Greeting(Greeting::begin(self.serial, 0));
+        mem::replace(&mut self.phase, passing)
+    }
+
+    // Takes a part of a clipboard, and returns the bytes of the whole clipboard that it ends, if it
+    // does. On `OutOfMemory` nothing changes.
+    pub(crate) fn take_part(
+        &mut self,
+        clip: ClipId,
+        seq: u32,
+        mark: ClipMark,
+        bytes: &[u8],
+    ) -> Result<Option<Octets>, OutOfMemory>
+        ensures ok { IfOk result (λ whole. TakesPart clip seq mark bytes.now whole self.old self.new) }
+        ensures err { OnErr result (self.new ≡ self.old) }
+    {
+        match clip {
+            ClipId::Clipboard => {
+                let took = self.clipboard.take(seq, mark, bytes)?;
+                Ok(whole_in(took))
+            }
+            ClipId::Selection => {
+                let took = self.selection.take(seq, mark, bytes)?;
+                Ok(whole_in(took))
+            }
         }
     }
 
@@ -127,5 +202,15 @@ impl Connection {
         ensures { Takes count self.old self.new }
     {
         self.queue.take(count);
+    }
+}
+
+// The bytes of the whole clipboard that a part ended, if it did.
+fn whole_in(took: Took) -> Option<Octets>
+    ensures { result ≡ whole_in took }
+{
+    match took {
+        Took::Whole(bytes) => Some(bytes),
+        Took::Started | Took::Going | Took::Dropped(_) => None,
     }
 }

@@ -5,6 +5,8 @@ ghost use Rattle.std.specs.Option.{option_map};
 ghost use Rattle.share_base.specs.Shapes.{IsScreenShape};
 ghost use Rattle.share_base.specs.declared.screen_set.TheConstants.{MOST_SCREENS};
 ghost use Rattle.hello_states.specs.Phases.{is_parting, used_screen, joined_screen, joined_shape};
+ghost use Rattle.hello_states.specs.Phases.{after_beat_in, after_hearing_in};
+ghost use Rattle.hello_states.specs.Advancing.{admitted_as, joined_with, reshaped_to};
 ghost use Rattle.connection_table.specs.PhaseOf.{phase_of, parted_phase};
 
 use hello_states::{Asked, Greeting, Joined, PartCause, Parting};
@@ -74,6 +76,69 @@ impl Phase {
             Phase::Greeting(greeting) => Phase::Parting(greeting.part(cause, now)),
             Phase::Asked(asked) => Phase::Parting(asked.part(cause, now)),
             Phase::Joined(joined) => Phase::Parting(joined.part(cause, now)),
+            Phase::Parting(parting) => Phase::Parting(parting),
+        }
+    }
+
+    /// Counts a beat as sent at that moment, if the connection is joined and a beat is due.
+    pub(crate) fn beaten(self, now: u64) -> Phase
+        ensures { phase_of result ≡ after_beat_in (phase_of self) now }
+    {
+        match self {
+            Phase::Joined(joined) => Phase::Joined(joined.beaten(now)),
+            Phase::Greeting(greeting) => Phase::Greeting(greeting),
+            Phase::Asked(asked) => Phase::Asked(asked),
+            Phase::Parting(parting) => Phase::Parting(parting),
+        }
+    }
+
+    /// Counts a whole message as heard at that moment, if the connection is joined.
+    pub(crate) fn heard(self, now: u64) -> Phase
+        ensures { phase_of result ≡ after_hearing_in (phase_of self) now }
+    {
+        match self {
+            Phase::Joined(joined) => Phase::Joined(joined.heard(now)),
+            Phase::Greeting(greeting) => Phase::Greeting(greeting),
+            Phase::Asked(asked) => Phase::Asked(asked),
+            Phase::Parting(parting) => Phase::Parting(parting),
+        }
+    }
+
+    /// Admits the connection as that screen, if it is to answer. Its keep-alive will have that rate.
+    pub(crate) fn admitted(self, screen: ScreenNo, rate: u32) -> Phase
+        requires { screen.0 < MOST_SCREENS }
+        ensures { phase_of result ≡ admitted_as screen.0 rate (phase_of self) }
+    {
+        match self {
+            Phase::Greeting(greeting) => Phase::Asked(greeting.admit(screen, rate)),
+            Phase::Asked(asked) => Phase::Asked(asked),
+            Phase::Joined(joined) => Phase::Joined(joined),
+            Phase::Parting(parting) => Phase::Parting(parting),
+        }
+    }
+
+    /// Joins the connection with that shape at that moment, if its shape was asked.
+    pub(crate) fn joined(self, shape: Shape, now: u64) -> Phase
+        requires { IsScreenShape shape }
+        ensures { phase_of result ≡ joined_with shape now (phase_of self) }
+    {
+        match self {
+            Phase::Greeting(greeting) => Phase::Greeting(greeting),
+            Phase::Asked(asked) => Phase::Joined(asked.join(shape, now)),
+            Phase::Joined(joined) => Phase::Joined(joined),
+            Phase::Parting(parting) => Phase::Parting(parting),
+        }
+    }
+
+    /// Gives the screen another shape at that moment, if the connection is joined.
+    pub(crate) fn reshaped(self, shape: Shape, now: u64) -> Phase
+        requires { IsScreenShape shape }
+        ensures { phase_of result ≡ reshaped_to shape now (phase_of self) }
+    {
+        match self {
+            Phase::Greeting(greeting) => Phase::Greeting(greeting),
+            Phase::Asked(asked) => Phase::Asked(asked),
+            Phase::Joined(joined) => Phase::Joined(joined.reshape(shape, now)),
             Phase::Parting(parting) => Phase::Parting(parting),
         }
     }

@@ -1,17 +1,22 @@
 //! All connections.
 
-ghost use Rattle.std.specs.Prelude.{◌≡◌, ◌≤◌, ◌<◌, ◌+◌, ◌^◌, ◌++◌, ◌∷◌, [], Some, length, IfSome, OnOk, OnErr, None, false};
+ghost use Rattle.std.specs.Prelude.{◌≡◌, ◌≤◌, ◌<◌, ◌+◌, ◌^◌, ◌++◌, ◌∷◌, [], Some, length, IfSome, IfOk, OnOk, OnErr, None, false};
 ghost use Rattle.std.specs.Option.{option_copied, option_map_or};
 ghost use Rattle.std.specs.List.{find, position};
+ghost use Rattle.share_base.specs.Shapes.{IsScreenShape};
+ghost use Rattle.share_base.specs.declared.screen_set.TheConstants.{MOST_SCREENS};
 ghost use Rattle.message_codec.specs.Spelling.{body_of};
+ghost use Rattle.hello_states.specs.Phases.{after_beat_in, after_hearing_in};
+ghost use Rattle.hello_states.specs.Advancing.{admitted_as, joined_with, reshaped_to};
 ghost use Rattle.wire_frames.specs.declared.limits.TheConstants.{BODY_LIMIT};
-ghost use Rattle.connection_table.specs.Calls.{Sends, Parts, Drops, Takes};
+ghost use Rattle.connection_table.specs.Calls.{Sends, Parts, Drops, Takes, Advances};
+ghost use Rattle.connection_table.specs.PartsTaken.{TakesPart};
 ghost use Rattle.connection_table.specs.Tables.{is_of, is_joined_as, is_too_slow, ChangesAt};
 
 use crate::connection::Connection;
 use hello_states::PartCause;
-use message_codec::Msg;
-use share_base::{OutOfMemory, ScreenNo};
+use message_codec::{ClipMark, Msg};
+use share_base::{ClipId, Octets, OutOfMemory, ScreenNo, Shape};
 use std::alloc::Global;
 use std::marker::Model;
 
@@ -116,6 +121,80 @@ impl Table {
         if let Some(place) = self.place_of(serial) {
             self.connections[place].part(cause, now);
         }
+    }
+
+    /// Counts a beat as sent to the connection of that serial at that moment, in milliseconds, if it is
+    /// joined and a beat is due.
+    pub fn beat(&mut self, serial: u64, now: u64)
+        ensures { ChangesAt serial (Advances (λ p. after_beat_in p now)) self.old self.new }
+    {
+        if let Some(place) = self.place_of(serial) {
+            self.connections[place].beat(now);
+        }
+    }
+
+    /// Counts a whole message of the connection of that serial as heard at that moment, in
+    /// milliseconds, if it is joined.
+    pub fn hear(&mut self, serial: u64, now: u64)
+        ensures { ChangesAt serial (Advances (λ p. after_hearing_in p now)) self.old self.new }
+    {
+        if let Some(place) = self.place_of(serial) {
+            self.connections[place].hear(now);
+        }
+    }
+
+    /// Admits the connection of that serial as a screen, if it is to answer. Its keep-alive will have that
+    /// rate, in milliseconds.
+    pub fn admit(&mut self, serial: u64, screen: ScreenNo, rate: u32)
+        requires { screen.0 < MOST_SCREENS }
+        ensures { ChangesAt serial (Advances (admitted_as screen.0 rate)) self.old self.new }
+    {
+        if let Some(place) = self.place_of(serial) {
+            self.connections[place].admit(screen, rate);
+        }
+    }
+
+    /// Joins the connection of that serial with that shape at that moment, in milliseconds, if its shape
+    /// was asked.
+    pub fn join(&mut self, serial: u64, shape: Shape, now: u64)
+        requires { IsScreenShape shape }
+        ensures { ChangesAt serial (Advances (joined_with shape now)) self.old self.new }
+    {
+        if let Some(place) = self.place_of(serial) {
+            self.connections[place].join(shape, now);
+        }
+    }
+
+    /// Gives the screen of the connection of that serial another shape at that moment, in milliseconds, if
+    /// it is joined.
+    pub fn reshape(&mut self, serial: u64, shape: Shape, now: u64)
+        requires { IsScreenShape shape }
+        ensures { ChangesAt serial (Advances (reshaped_to shape now)) self.old self.new }
+    {
+        if let Some(place) = self.place_of(serial) {
+            self.connections[place].reshape(shape, now);
+        }
+    }
+
+    /// Takes a part of a clipboard from the connection of that serial, and returns the bytes of the whole
+    /// clipboard that it ends, if it does. On `OutOfMemory` nothing changes.
+    pub fn take_part(
+        &mut self,
+        serial: u64,
+        clip: ClipId,
+        seq: u32,
+        mark: ClipMark,
+        bytes: &[u8],
+    ) -> Result<Option<Octets>, OutOfMemory>
+        ensures ok { IfOk result (λ whole. ChangesAt serial (TakesPart clip seq mark bytes.now whole)
+            self.old self.new) }
+        ensures err { OnErr result (self.new ≡ self.old) }
+    {
+        let Some(place) = self.place_of(serial) else {
+            return Ok(None);
+        };
+        let whole = self.connections[place].take_part(clip, seq, mark, bytes)?;
+        Ok(whole)
     }
 
     /// Drops what is queued for the connection of that serial and not taken.

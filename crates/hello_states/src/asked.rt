@@ -1,10 +1,11 @@
 //! A connection that answered as a screen and is to tell its shape.
 
-ghost use Rattle.std.specs.Prelude.{◌≡◌, ◌≤◌, ◌<◌};
+ghost use Rattle.std.specs.Prelude.{◌≡◌, ◌≤◌, ◌<◌, Some};
 ghost use Rattle.share_base.specs.Moments.{last_moment};
+ghost use Rattle.share_base.specs.Shapes.{IsScreenShape};
 ghost use Rattle.share_base.specs.declared.screen_set.TheConstants.{MOST_SCREENS};
 ghost use Rattle.hello_states.specs.Phases.{Asked as in_asked};
-ghost use Rattle.hello_states.specs.TypedPhases.{asked_phase, parting_phase};
+ghost use Rattle.hello_states.specs.TypedPhases.{asked_phase, joined_phase, parting_phase};
 ghost use Rattle.hello_states.specs.Handshake.{parting_for, asked_after_info};
 ghost use Rattle.hello_states.specs.Information.{shape_in, phase_informed, serial_informed};
 
@@ -13,7 +14,7 @@ use crate::joined::Joined;
 use crate::part_cause::PartCause;
 use crate::parting::Parting;
 use keepalive_clock::Alive;
-use share_base::{ScreenNo, moment_of};
+use share_base::{ScreenNo, Shape, moment_of};
 use std::marker::Model;
 
 /// A connection that was admitted as a screen and was asked for the screen's information. It keeps
@@ -77,13 +78,22 @@ impl Asked {
         let Some(shape) = info.shape() else {
             return Informed::Parting(self.part(PartCause::Size, now));
         };
+        Informed::Joined(self.join(shape, now))
+    }
+
+    /// Joins the connection with that shape at that moment, at which its keep-alive begins.
+    pub fn join(self, shape: Shape, now: u64) -> Joined
+        requires { IsScreenShape shape }
+        ensures phase { joined_phase result ≡ asked_after_info (Some shape) now self.asked }
+        ensures serial { result.serial ≡ self.serial }
+    {
         let moment = moment_of(now);
         let alive = Alive {
             sent: moment,
             heard: moment,
             rate: self.rate,
         };
-        Informed::Joined(Joined::new(self.serial, self.screen, shape, alive))
+        Joined::new(self.serial, self.screen, shape, alive)
     }
 
     /// Parts the connection for that cause at that moment.

@@ -1,11 +1,12 @@
 //! A connection that was greeted and is to answer.
 
-ghost use Rattle.std.specs.Prelude.{◌≡◌, ◌≤◌, ◌<◌, IfOk};
+ghost use Rattle.std.specs.Prelude.{◌≡◌, ◌≤◌, ◌<◌, IfOk, length};
 ghost use Rattle.share_base.specs.Screens.{has};
 ghost use Rattle.share_base.specs.Moments.{last_moment};
 ghost use Rattle.share_base.specs.declared.screen_set.TheConstants.{MOST_SCREENS};
-ghost use Rattle.hello_states.specs.TypedPhases.{greeting_phase, parting_phase};
+ghost use Rattle.hello_states.specs.TypedPhases.{greeting_phase, asked_phase, parting_phase};
 ghost use Rattle.hello_states.specs.Handshake.{greeting_at, parting_for, after_hello};
+ghost use Rattle.hello_states.specs.Advancing.{admitted_as};
 ghost use Rattle.hello_states.specs.Answers.{answer_under, rate_under, answer_of, phase_answered};
 ghost use Rattle.hello_states.specs.Answers.{serial_answered};
 
@@ -78,14 +79,18 @@ impl Greeting {
         ensures serial { serial_answered result ≡ self.serial }
     {
         match admitted_screen(major, minor, name, config, used) {
-            Ok(screen) => Answered::Asked(Asked::new(
-                self.serial,
-                screen,
-                self.accepted,
-                config.globals().heartbeat,
-            )),
+            Ok(screen) => Answered::Asked(self.admit(screen, config.globals().heartbeat)),
             Err(cause) => Answered::Parting(self.part(cause, now)),
         }
+    }
+
+    /// Admits the connection as that screen; its keep-alive will have that rate, in milliseconds.
+    pub fn admit(self, screen: ScreenNo, rate: u32) -> Asked
+        requires { screen.0 < MOST_SCREENS }
+        ensures phase { asked_phase result ≡ admitted_as screen.0 rate (greeting_phase self) }
+        ensures serial { result.serial ≡ self.serial }
+    {
+        Asked::new(self.serial, screen, self.accepted, rate)
     }
 
     /// Parts the connection for that cause at that moment.
@@ -112,8 +117,9 @@ impl Greeting {
     }
 }
 
-/// Returns the screen as which a connection is admitted, or the cause for which it is refused.
-fn admitted_screen(
+/// Returns the screen as which a connection is admitted that answers so, a number below 64, or the
+/// cause for which it is refused.
+pub fn admitted_screen(
     major: u16,
     minor: u16,
     name: &[u8],
@@ -122,6 +128,7 @@ fn admitted_screen(
 ) -> Result<ScreenNo, PartCause>
     ensures answer { answer_of result ≡ answer_under config.now used.now major minor name.now }
     ensures below { IfOk result (λ n. n.0 < MOST_SCREENS) }
+    ensures known { IfOk result (λ n. n.0 < length config.now.screens) }
 {
     if !is_admitted(major, minor) {
         return Err(PartCause::Version);

@@ -36,7 +36,7 @@ pub struct InfoFields {
 impl InfoFields {
     /// Returns the shape of the screen. `None` if no screen has such a shape: its width and its
     /// height are 1 to 32,767, and its last column and its last row are at most 32,767.
-    pub(crate) fn shape(&self) -> Option<Shape>
+    pub fn shape(&self) -> Option<Shape>
         ensures told { result ≡ shape_in self.now }
         ensures screen { IfSome result IsScreenShape }
     {

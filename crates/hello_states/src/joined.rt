@@ -1,10 +1,10 @@
 //! A connection whose screen can be entered.
 
-ghost use Rattle.std.specs.Prelude.{◌≡◌, ◌<◌};
+ghost use Rattle.std.specs.Prelude.{◌≡◌, ◌<◌, Some};
 ghost use Rattle.std.specs.Borrow.{sem};
 ghost use Rattle.share_base.specs.Shapes.{IsScreenShape};
 ghost use Rattle.share_base.specs.declared.screen_set.TheConstants.{MOST_SCREENS};
-ghost use Rattle.hello_states.specs.Phases.{Joined as in_joined};
+ghost use Rattle.hello_states.specs.Phases.{Joined as in_joined, after_beat_in, after_hearing_in};
 ghost use Rattle.hello_states.specs.TypedPhases.{joined_phase, parting_phase};
 ghost use Rattle.hello_states.specs.Handshake.{parting_for, joined_after_info};
 ghost use Rattle.hello_states.specs.Information.{shape_in, phase_informed, serial_informed};
@@ -69,9 +69,37 @@ impl Joined {
         let Some(shape) = info.shape() else {
             return Informed::Parting(self.part(PartCause::Size, now));
         };
+        Informed::Joined(self.reshape(shape, now))
+    }
+
+    /// Gives the screen another shape at that moment, at which it counts as heard.
+    pub fn reshape(self, shape: Shape, now: u64) -> Joined
+        requires { IsScreenShape shape }
+        ensures phase { joined_phase result ≡ joined_after_info (Some shape) now self.joined }
+        ensures serial { result.serial ≡ self.serial }
+    {
+        let heard = self.heard(now);
+        Joined::new(heard.serial, heard.screen, shape, heard.alive)
+    }
+
+    /// Counts a whole message as heard at that moment.
+    pub fn heard(self, now: u64) -> Joined
+        ensures phase { joined_phase result ≡ after_hearing_in (in_joined self.joined) now }
+        ensures serial { result.serial ≡ self.serial }
+    {
         let mut alive = self.alive;
         alive.heard(now);
-        Informed::Joined(Joined::new(self.serial, self.screen, shape, alive))
+        Joined::new(self.serial, self.screen, self.shape, alive)
+    }
+
+    /// Counts a beat as sent at that moment, if one is due.
+    pub fn beaten(self, now: u64) -> Joined
+        ensures phase { joined_phase result ≡ after_beat_in (in_joined self.joined) now }
+        ensures serial { result.serial ≡ self.serial }
+    {
+        let mut alive = self.alive;
+        let _ = alive.beat(now);
+        Joined::new(self.serial, self.screen, self.shape, alive)
     }
 
     /// Parts the connection for that cause at that moment.

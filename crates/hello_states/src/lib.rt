@@ -22,7 +22,7 @@ mod version;
 
 pub use asked::{Asked, Informed};
 pub use deadlines::{CLOSING_TIME, HANDSHAKE_TIME};
-pub use greeting::{Answered, Greeting};
+pub use greeting::{Answered, Greeting, admitted_screen};
 pub use info_fields::InfoFields;
 pub use joined::Joined;
 pub use part_cause::{CAUSE_LENGTH, PartCause};

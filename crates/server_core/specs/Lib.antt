@@ -2,6 +2,7 @@ pub mod Targets
 pub mod Lines
 pub mod Scripts
 pub mod Standing
+pub mod Serving
 pub mod Leading
 pub mod Shapes
 pub mod Sending

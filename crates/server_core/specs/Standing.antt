@@ -1,5 +1,5 @@
 -- Which state of the machine a server is in.
-use Rattle.std.specs.Prelude.{◌≡◌, ℕ, List, [], ◌++◌, drop, map}
+use Rattle.std.specs.Prelude.{◌≡◌, ℕ, List, [], ◌++◌, drop, map, length}
 use Rattle.message_codec.specs.declared.messages.Msg.{Msg}
 use Rattle.clip_chunks.specs.Books as books
 use Rattle.machine.specs.Targets as machine
@@ -17,20 +17,26 @@ use Rattle.server_core.specs.declared.server.ServerCore.{ServerCore}
 use Rattle.server_core.specs.Targets.{meant, IsThere}
 use Rattle.server_core.specs.Lines.{line_of}
 
--- what is told beside the state: the text of the log that was cleared, and the messages that the reader of each
--- connection gave
+-- what is told beside the state: the text of the log that was cleared, and of each connection the bytes that came and
+-- the messages that its reader gave of them
 pub record Beside : Type 0 where
   pub front : List ℕ
+  pub received : ℕ → List ℕ
   pub given : ℕ → List Msg
 
 abbrev pub nothing_told : Beside
-nothing_told = record { front = []; given = λ serial. [] }
+nothing_told = record { front = []; received = λ serial. []; given = λ serial. [] }
+
+-- nothing of that serial was heard
+abbrev pub IsBlank : ℕ → Beside → Type 0
+IsBlank serial b = (b.received serial ≡ []) × (b.given serial ≡ [])
 
 -- what tells the kept connections
 abbrev pub around : Beside → State → Surroundings
-around b s = record { routed = s.routed; given = b.given; limit = clip_limit s }
+around b s = record { routed = s.routed; received = b.received; given = b.given; limit = clip_limit s; count = length s.config.screens }
 
-pub record Stands (b : Beside) (core : ServerCore) (s : State) : Type 0 where
+-- the server is in that state, of which that holds
+pub record StandsWhere (P : State → Type 0) (b : Beside) (core : ServerCore) (s : State) : Type 0 where
   -- what was given at the start
   pub config : core.config ≡ s.config
   pub primary : core.script.primary.screen.0 ≡ s.primary
@@ -45,7 +51,7 @@ pub record Stands (b : Beside) (core : ServerCore) (s : State) : Type 0 where
   pub connections : AreFor (around b s) core.table s.connections
   -- the cursor
   pub active : meant core.active ≡ s.active
-  pub there : IsThere s s.active
+  pub there : P s
   pub cursor : point_of core.cursor ≡ s.cursor
   pub sequence : core.sequence ≡ s.sequence
   pub is_locked : core.is_locked ≡ s.is_locked
@@ -59,3 +65,11 @@ pub record Stands (b : Beside) (core : ServerCore) (s : State) : Type 0 where
   -- what was told
   pub told : logs.StandsFor core.primary (messages_for machine.Primary s.routed)
   pub log : b.front ++ core.log ≡ log_text s
+
+-- whose active screen is there
+abbrev pub Stands : Beside → ServerCore → State → Type 0
+Stands b core s = StandsWhere (λ t. IsThere t t.active) b core s
+
+-- whose active screen may be gone, as it may be when a run ends
+abbrev pub Leaves : Beside → ServerCore → State → Type 0
+Leaves b core s = StandsWhere (λ t. Unit {0}) b core s
