@@ -17,32 +17,47 @@ pub trait Link {
     /// What it tells.
     ghost state: { Self → LinkState };
 
+    /// Calls led from the one to the other. A link in memory says by it that its trace answered them.
+    ghost leads: { Self → Self → Type 0 };
+
+    /// No call was made.
+    ghost stays: { (link : Self) → leads link link };
+
+    /// Calls were made after others.
+    ghost goes_on: { (old middle new : Self) → leads old middle → leads middle new → leads old new };
+
     /// Connects to a port of a host.
     fn connect(&mut self, host: &str, port: u16) -> Result<(), CallFault>
-        ensures calls { LinkCalls (connect_act host.now port result) (state self.old) (state self.new) };
+        ensures calls { LinkCalls (connect_act host.now port result) (state self.old) (state self.new) }
+        ensures leads { leads self.old self.new };
 
     /// Waits at most that many milliseconds until the stream is ready.
     fn wait(&mut self, ms: u32) -> LinkWaited
         requires { ms ≤ 1000 }
-        ensures calls { LinkCalls (link_wait_act ms result) (state self.old) (state self.new) };
+        ensures calls { LinkCalls (link_wait_act ms result) (state self.old) (state self.new) }
+        ensures leads { leads self.old self.new };
 
     /// The moment, in milliseconds.
     fn now(&mut self) -> Result<u64, OutOfMemory>
-        ensures calls { LinkCalls (link_now_act result) (state self.old) (state self.new) };
+        ensures calls { LinkCalls (link_now_act result) (state self.old) (state self.new) }
+        ensures leads { leads self.old self.new };
 
     /// Reads into the front of `buf`, which is not empty.
     fn read(&mut self, buf: &mut [u8]) -> ReadAnswer
         requires { 0 < length buf.old }
         ensures fits { FitsRead result (length buf.old) }
-        ensures calls { LinkCalls (link_read_act buf.new result) (state self.old) (state self.new) };
+        ensures calls { LinkCalls (link_read_act buf.new result) (state self.old) (state self.new) }
+        ensures leads { leads self.old self.new };
 
     /// Writes a front of `bytes`, which are not empty.
     fn write(&mut self, bytes: &[u8]) -> WriteAnswer
         requires { 0 < length bytes.now }
         ensures fits { FitsWrite result (length bytes.now) }
-        ensures calls { LinkCalls (link_write_act bytes.now result) (state self.old) (state self.new) };
+        ensures calls { LinkCalls (link_write_act bytes.now result) (state self.old) (state self.new) }
+        ensures leads { leads self.old self.new };
 
     /// Closes the stream.
     fn close(&mut self) -> Result<(), OutOfMemory>
-        ensures calls { LinkCalls (link_close_act result) (state self.old) (state self.new) };
+        ensures calls { LinkCalls (link_close_act result) (state self.old) (state self.new) }
+        ensures leads { leads self.old self.new };
 }

@@ -1,4 +1,5 @@
 pub mod AddedActs
+pub mod PlayedCalls
 pub mod OpenSerials
 pub mod StoryStreams
 pub mod SoundHubs

@@ -3,4 +3,5 @@ pub mod Stories
 pub mod Streams
 pub mod Feeds
 pub mod Answers
+pub mod Playing
 pub mod Standing

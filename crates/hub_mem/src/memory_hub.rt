@@ -7,6 +7,7 @@ ghost use Rattle.hub_acts.specs.declared.act.Act.TheVariants as act;
 ghost use Rattle.hub_acts.specs.declared.answers.WriteAnswer.TheVariants as written;
 ghost use Rattle.hub_mem.specs.Stories.{clock_in, joined_in};
 ghost use Rattle.hub_mem.specs.Answers.{Played, Plays, hub_state, is_to_fail, tally, story, trace_listen, trace_wait, trace_now, trace_accept, trace_read, trace_write, trace_close, listen_given, end_given, accept_given, write_given, end_answer, write_answer, front_read, stream_of};
+ghost use Rattle.hub_mem.specs.Playing.{PlaysOn, plays_stay, plays_go_on};
 ghost use Rattle.hub_mem.specs.Standing.{IsQuiet, IsNoTurn, IsNoByte, IsNoByteOrNoMemory, IsNotTaken, IsNotTakenOrNoMemory, none_read_act};
 
 use crate::ledger::Ledger;
@@ -409,10 +410,17 @@ fn room_for(stream: &Stream, offered: usize) -> WriteAnswer
 impl Hub for MemoryHub {
     ghost state = { hub_state };
 
+    ghost leads = { PlaysOn };
+
+    ghost stays = { plays_stay };
+
+    ghost goes_on = { plays_go_on };
+
     /// Fails exactly if the call is listed.
     fn listen(&mut self, port: u16) -> Result<(), CallFault>
         ensures calls { HubCalls (listen_act port result) (hub_state self.old) (hub_state self.new) }
         ensures plays { Plays (trace_listen self.old port) (listen_act port result) self.old self.new }
+        ensures leads { PlaysOn self.old self.new }
     {
         self.play_listen(port)
     }
@@ -424,6 +432,7 @@ impl Hub for MemoryHub {
         ensures fits { FitsWait result ready.old ready.new }
         ensures calls { HubCalls (wait_act ms ready.new result) (hub_state self.old) (hub_state self.new) }
         ensures plays { Plays (trace_wait self.old ms) (wait_act ms ready.new result) self.old self.new }
+        ensures leads { PlaysOn self.old self.new }
     {
         self.play_wait(ms, ready)
     }
@@ -432,6 +441,7 @@ impl Hub for MemoryHub {
     fn now(&mut self) -> Result<u64, OutOfMemory>
         ensures calls { HubCalls (now_act result) (hub_state self.old) (hub_state self.new) }
         ensures plays { Plays (trace_now self.old) (now_act result) self.old self.new }
+        ensures leads { PlaysOn self.old self.new }
     {
         self.play_now()
     }
@@ -441,6 +451,7 @@ impl Hub for MemoryHub {
         ensures fits { FitsAccept result (hub_state self.old).latest }
         ensures calls { HubCalls (accept_act result) (hub_state self.old) (hub_state self.new) }
         ensures plays { Plays (trace_accept self.old) (accept_act result) self.old self.new }
+        ensures leads { PlaysOn self.old self.new }
     {
         self.play_accept()
     }
@@ -452,6 +463,7 @@ impl Hub for MemoryHub {
         ensures fits { FitsRead result (length buf.old) }
         ensures calls { HubCalls (read_act serial buf.new result) (hub_state self.old) (hub_state self.new) }
         ensures plays { Plays (trace_read self.old serial (length buf.old)) (read_act serial buf.new result) self.old self.new }
+        ensures leads { PlaysOn self.old self.new }
     {
         // An open serial was accepted: the fields show it.
         let _ = &self.ledger;
@@ -465,6 +477,7 @@ impl Hub for MemoryHub {
         ensures fits { FitsWrite result (length bytes.now) }
         ensures calls { HubCalls (write_act serial bytes.now result) (hub_state self.old) (hub_state self.new) }
         ensures plays { Plays (trace_write self.old serial bytes.now) (write_act serial bytes.now result) self.old self.new }
+        ensures leads { PlaysOn self.old self.new }
     {
         // An open serial was accepted: the fields show it.
         let _ = &self.ledger;
@@ -476,6 +489,7 @@ impl Hub for MemoryHub {
         requires is_open { Contains (hub_state self.old).open_now serial }
         ensures calls { HubCalls (close_act serial result) (hub_state self.old) (hub_state self.new) }
         ensures plays { Plays (trace_close serial) (close_act serial result) self.old self.new }
+        ensures leads { PlaysOn self.old self.new }
     {
         self.play_close(serial)
     }

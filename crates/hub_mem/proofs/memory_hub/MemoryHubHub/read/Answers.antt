@@ -1,3 +1,4 @@
+use Rattle.hub_mem.proofs.PlayedCalls.{read_on}
 use Rattle.std.proofs.Common.{subst, ◌≤◌}
 use Rattle.std.specs.Prelude.{Contains}
 use Rattle.hub_mem.specs.Answers.{Played, tally}
@@ -11,3 +12,6 @@ play_read-requires-clause-there c =
 
 pub returns-clause-calls : goal.returns-clause-calls
 returns-clause-calls c = hub-calls _ _ _ c.play_read.ensures.plays.after
+
+pub returns-clause-leads : goal.returns-clause-leads
+returns-clause-leads c = read_on c.args.serial _ _ _ _ _ c.play_read.ensures.plays
