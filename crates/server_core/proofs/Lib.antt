@@ -15,7 +15,6 @@ pub mod Farewells
 pub mod SlowFound
 pub mod Loops
 pub mod SlowTurns
-pub mod SameSerials
 pub mod Timed
 pub mod DueOnes
 pub mod Come

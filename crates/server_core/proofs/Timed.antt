@@ -1,8 +1,9 @@
 -- Timers that come to one connection after another.
-use Rattle.std.specs.Prelude.{◌≡◌, refl, ℕ, ◌+◌, zero, suc, ◌≤◌, Bool, true, false, List, [], ◌∷◌, length, map, take, Option, Some, None}
+use Rattle.std.specs.Prelude.{◌≡◌, refl, ℕ, ◌+◌, ◌≤◌, List, [], ◌∷◌, length, map, take}
 use Rattle.std.specs.List.{slice_get}
-use Rattle.std.specs.Option.{option_map}
-use Rattle.std.proofs.Common.{arith, sym, ap, ◌∙◌, subst, add-one}
+use Rattle.std.specs.Option.{option_map, option_to_list}
+use Rattle.std.proofs.Common.{arith, sym, ap, ◌∙◌, subst}
+use Rattle.std.proofs.lemmas.List.{take_all, length-map}
 use Rattle.std.proofs.lemmas.Option.{slice_get-map}
 use Rattle.hello_states.specs.declared.part_cause.PartCause.TheVariants as cause
 use Rattle.machine.specs.Connections.{Connection, serials}
@@ -10,6 +11,7 @@ use Rattle.machine.specs.States.{State}
 use Rattle.machine.specs.Combining.{when, for_some, for_each, unchanged}
 use Rattle.machine.specs.Screens.{connection}
 use Rattle.machine.specs.Slow.{part_slow}
+use Rattle.machine.specs.Timers.{sent_beat}
 use Rattle.machine.proofs.Rules.{when-keeps, for_some-keeps, for_each-keeps}
 use Rattle.connection_table.specs.declared.connection.Connection as kept
 use Rattle.connection_table.specs.Standing.{StandsFor, Pairs}
@@ -20,7 +22,8 @@ use Rattle.server_core.specs.declared.timers.Timer.TheVariants as timer
 use Rattle.server_core.specs.Leading.{Leads}
 use Rattle.server_core.specs.Standing.{Beside, around, Stands}
 use Rattle.server_core.specs.Timing.{test_of, rule_of, serial_at, for_one, for_all, for_place}
-use Rattle.server_core.proofs.SameSerials.{HasSerials, part-serials, part_slow-serials, beat-serials}
+use Rattle.server_core.proofs.Indexed.{for_each-one}
+use Rattle.server_core.proofs.Steady.{HasSerials, steady-serials, part-steady, part_slow-steady}
 
 -- ---- the serials that are kept
 
@@ -39,21 +42,14 @@ serial-at b core s place h = sym (slice_get-map (λ (k : kept.Connection). k.ser
 -- ---- one after another
 
 rule-serials : (t : Timer) (serial : ℕ) (ns : List ℕ) (s : State) → HasSerials ns s → HasSerials ns (rule_of t serial s)
-rule-serials timer.Death serial ns s h = part-serials cause.Dead serial ns s h
-rule-serials timer.Silence serial ns s h = part-serials cause.Silent serial ns s h
-rule-serials timer.Beat serial ns s h = beat-serials serial ns s h
+rule-serials timer.Death serial ns s h = part-steady (steady-serials ns) cause.Dead serial s h
+rule-serials timer.Silence serial ns s h = part-steady (steady-serials ns) cause.Silent serial s h
+rule-serials timer.Beat serial ns s h = (steady-serials ns).changed serial (sent_beat s.at) (λ c. refl) s h
 
 one-serials : (t : Timer) (serial : ℕ) (ns : List ℕ) (s : State) → HasSerials ns s → HasSerials ns (for_one t serial s)
 one-serials t serial ns s h =
     for_some-keeps (HasSerials ns) (connection s serial) (λ c. when (test_of t s c) (λ u. part_slow (rule_of t serial u))) unchanged s
-    (λ c e. when-keeps (HasSerials ns) (test_of t s c) (λ u. part_slow (rule_of t serial u)) (λ u k. part_slow-serials ns (rule_of t serial u) (rule-serials t serial ns u k)) s h) h
-
--- the rule for those up to a place, and for the one there
-pub each-next : {A S : Type 0} (xs : List A) (i : ℕ) (rule : A → S → S) (s : S) → for_some (slice_get xs i) rule unchanged (for_each (take i xs) rule s) ≡ for_each (take (suc i) xs) rule s
-each-next [] zero rule s = refl
-each-next [] (suc i) rule s = refl
-each-next (x ∷ xs) zero rule s = refl
-each-next (x ∷ xs) (suc i) rule s = each-next xs i rule (rule x s)
+    (λ c e. when-keeps (HasSerials ns) (test_of t s c) (λ u. part_slow (rule_of t serial u)) (λ u k. part_slow-steady (steady-serials ns) (rule_of t serial u) (rule-serials t serial ns u k)) s h) h
 
 -- those up to a place
 abbrev pub up_to : Timer → ℕ → State → State
@@ -63,24 +59,12 @@ timed_next : (t : Timer) (place : ℕ) (s : State) → for_place t place (up_to 
 timed_next t place s =
     let ns : List ℕ = serials s.connections in
     let same : HasSerials ns (up_to t place s) = for_each-keeps (HasSerials ns) (take place ns) (for_one t) (λ serial u k. one-serials t serial ns u k) s refl in
-    ap (λ ms. for_some (slice_get ms place) (for_one t) unchanged (up_to t place s)) same
-    ∙ (each-next ns place (for_one t) s ∙ ap (λ n. for_each (take n ns) (for_one t) s) (sym (add-one place)))
+    ap (λ ms. for_each (option_to_list (slice_get ms place)) (for_one t) (up_to t place s)) same ∙ sym (for_each-one ns place (for_one t) s)
 
 pub timed-more : (old now new : ServerCore) (t : Timer) (place : ℕ) → Leads old now (up_to t place) → Leads now new (for_place t place) → Leads old new (up_to t (place + 1))
 timed-more old now new t place so_far leads = λ b s h. subst (λ u. Stands b new u) (timed_next t place s) (leads b (up_to t place s) (so_far b s h))
 
-take_all : {A : Type 0} (xs : List A) (n : ℕ) → n ≡ length xs → take n xs ≡ xs
-take_all xs n e = ap (λ m. take m xs) e ∙ whole xs
-  where
-    whole : {A : Type 0} (ys : List A) → take (length ys) ys ≡ ys
-    whole [] = refl
-    whole (y ∷ ys) = ap (λ zs. y ∷ zs) (whole ys)
-
-length_map : (cs : List Connection) → length (serials cs) ≡ length cs
-length_map [] = refl
-length_map (c ∷ cs) = ap suc (length_map cs)
-
 pub timed-all : (old now : ServerCore) (t : Timer) (place count : ℕ) → place ≡ count → count ≡ length old.table → Leads old now (up_to t place) → Leads old now (for_all t)
 timed-all old now t place count end e so_far = λ b s h.
-    let many : place ≡ length (serials s.connections) = end ∙ (e ∙ (pairs-length (StandsFor (around b s)) 0 old.table s.connections h.connections ∙ sym (length_map s.connections))) in
-    subst (λ ns. Stands b now (for_each ns (for_one t) s)) (take_all (serials s.connections) place many) (so_far b s h)
+    let many : length (serials s.connections) ≤ place = let same = length-map (λ (c : Connection). c.serial) s.connections in let kept = pairs-length (StandsFor (around b s)) 0 old.table s.connections h.connections in omega arith in
+    subst (λ ns. Stands b now (for_each ns (for_one t) s)) (take_all place (serials s.connections) many) (so_far b s h)

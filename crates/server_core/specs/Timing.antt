@@ -1,11 +1,11 @@
 -- What the clock brings to a connection: when it comes, and what the machine then does.
 use Rattle.std.specs.Prelude.{ℕ, Bool, false, Option}
 use Rattle.std.specs.List.{slice_get}
-use Rattle.std.specs.Option.{option_map_or}
+use Rattle.std.specs.Option.{option_map_or, option_to_list}
 use Rattle.hello_states.specs.declared.part_cause.PartCause.TheVariants as cause
 use Rattle.machine.specs.Connections.{Connection, serials}
 use Rattle.machine.specs.States.{State}
-use Rattle.machine.specs.Combining.{for_some, unchanged}
+use Rattle.machine.specs.Combining.{for_each}
 use Rattle.machine.specs.Screens.{connection}
 use Rattle.machine.specs.Partings.{part}
 use Rattle.machine.specs.Timers as machine
@@ -41,4 +41,4 @@ serial_at place s = slice_get (serials s.connections) place
 
 -- to the one at that place, where there is one
 abbrev pub for_place : Timer → ℕ → State → State
-for_place t place s = for_some (serial_at place s) (for_one t) unchanged s
+for_place t place s = for_each (option_to_list (serial_at place s)) (for_one t) s

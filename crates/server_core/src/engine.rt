@@ -116,7 +116,7 @@ impl Engine for ServerCore {
     fn at(&self) -> u64
         ensures { Reads serves self.now result (λ s. s.at) }
     {
-        self.at
+        self.at.moment()
     }
 
     /// Returns the text of the log since it was last cleared.

@@ -52,7 +52,7 @@ impl ServerCore {
         ensures { Reads self.now result readings.closing }
     {
         for connection in self.table.as_slice() {
-            if connection.is_to_close(self.at) {
+            if connection.is_to_close(self.at.moment()) {
                 return Some(connection.serial());
             }
         }
@@ -68,5 +68,18 @@ impl ServerCore {
             least = earlier(least, connection.due());
         }
         least
+    }
+
+    // Returns the moment at which something is due: of a connection, of the gate, or of the script.
+    pub(crate) fn least_due(&self) -> u64
+        ensures { Reads self.now result readings.due }
+    {
+        let connections = self.due_of_connections();
+        let gate = earlier(connections, self.gate_due());
+        let sleep = earlier(gate, self.sleep_end());
+        if self.may_run_next() {
+            return earlier(sleep, Some(self.at.moment()));
+        }
+        sleep
     }
 }

@@ -11,7 +11,7 @@ use crate::server::ServerCore;
 use crate::target::Target;
 use hello_states::PartCause;
 use message_codec::Msg;
-use share_base::{OutOfMemory, moment_of};
+use share_base::OutOfMemory;
 
 /// What comes to a connection by the clock alone.
 #[derive(Clone, Copy, Debug, PartialEq, Eq)]
@@ -29,7 +29,7 @@ impl ServerCore {
     pub(crate) fn clock(&mut self, t: u64)
         ensures { Leads self.old self.new (timers.clock t) }
     {
-        self.at = self.at.max(moment_of(t));
+        self.at.advance(t);
     }
 
     // Does to each connection what the timer brings, by rising serial.
@@ -87,6 +87,17 @@ impl ServerCore {
         }
     }
 
+    // Sends a beat to the connection of that serial, and counts it as sent.
+    fn beat(&mut self, serial: u64) -> Result<(), OutOfMemory>
+        ensures { OnOk result (LeadsWhere (λ s. IsThere s (Client serial))
+            self.old self.new (timers.beat serial)) }
+    {
+        let now = self.at.moment();
+        self.table.beat(serial, now);
+        self.route(Target::Client(serial), &Msg::Alive)?;
+        Ok(())
+    }
+
     // Returns the serial of the connection at that place, by rising serial.
     fn serial_at(&self, place: usize) -> Option<u64>
         ensures { Reads self.now result (serial_at place) }
@@ -103,9 +114,9 @@ impl ServerCore {
     {
         match self.table.get(serial) {
             Some(connection) => match timer {
-                Timer::Death => connection.phase().is_dead(self.at),
-                Timer::Silence => connection.phase().is_silent(self.at),
-                Timer::Beat => connection.phase().is_beat_due(self.at),
+                Timer::Death => connection.phase().is_dead(self.at.moment()),
+                Timer::Silence => connection.phase().is_silent(self.at.moment()),
+                Timer::Beat => connection.phase().is_beat_due(self.at.moment()),
             },
             None => false,
         }
