@@ -3,5 +3,5 @@ pub mod Pairs
 pub mod PartsTaken
 pub mod Standing
 pub mod Places
-pub mod Deadlines
+pub mod DueOnes
 pub mod Advancing

@@ -29,3 +29,5 @@ pub mod NextLine
 pub mod Sleeping
 pub mod Passed
 pub mod Joined
+pub mod Promised
+pub mod Driven

@@ -66,5 +66,5 @@ timed-more old now new t place so_far leads = λ b s h. subst (λ u. Stands b ne
 
 pub timed-all : (old now : ServerCore) (t : Timer) (place count : ℕ) → place ≡ count → count ≡ length old.table → Leads old now (up_to t place) → Leads old now (for_all t)
 timed-all old now t place count end e so_far = λ b s h.
-    let many : length (serials s.connections) ≤ place = let same = length-map (λ (c : Connection). c.serial) s.connections in let kept = pairs-length (StandsFor (around b s)) 0 old.table s.connections h.connections in omega arith in
+    let many : length (serials s.connections) ≤ place = let same = length-map s.connections (λ (c : Connection). c.serial) in let kept = pairs-length (StandsFor (around b s)) 0 old.table s.connections h.connections in omega arith in
     subst (λ ns. Stands b now (for_each ns (for_one t) s)) (take_all place (serials s.connections) many) (so_far b s h)

@@ -15,3 +15,5 @@ pub mod NextLine
 pub mod Goodbyes
 pub mod Around
 pub mod Passing
+pub mod Driving
+pub mod Promises

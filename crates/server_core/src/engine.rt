@@ -6,6 +6,7 @@ ghost use Rattle.machine.specs.Readings as machine;
 ghost use Rattle.engine_loop.specs.Engines.{meaning, Steps, ClosesParting, Reads, Offers, Counts, Logs, ClearsLog};
 ghost use Rattle.server_core.specs.Driving.{serves, departs, offered};
 ghost use Rattle.server_core.specs.Promises.{GoesOnRunning};
+ghost use Rattle.server_core.proofs.Driven.{departing};
 
 use crate::server::ServerCore;
 use engine_loop::{Engine, Happening};
@@ -15,6 +16,7 @@ impl Engine for ServerCore {
     ghost serves = { serves };
     ghost departs = { departs };
     ghost offered = { offered };
+    ghost departing = { departing };
 
     /// Does what the machine does at that happening. A serial that joins is greater than all before,
     /// and every other one is that of an open connection. On `OutOfMemory`, which also comes where one
@@ -41,7 +43,7 @@ impl Engine for ServerCore {
 
     /// Notes that a connection took so many of the bytes that it was offered.
     fn taken(&mut self, serial: u64, count: usize)
-        requires within { count ≤ length (offered self.old serial) }
+        requires { count ≤ length (offered self.old serial) }
         ensures steps { Steps serves self.old self.new (Took serial count) }
         ensures laws { GoesOnRunning (Took serial count) self.old self.new }
         ensures still { self.new.is_broken ≡ self.old.is_broken }
