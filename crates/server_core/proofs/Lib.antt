@@ -28,6 +28,6 @@ pub mod Copies
 pub mod NextLine
 pub mod Sleeping
 pub mod Passed
-pub mod Joined
+pub mod JoinedScreens
 pub mod Promised
 pub mod Driven

@@ -1,7 +1,7 @@
 use Rattle.std.specs.Prelude.{◌≡◌, length}
 use Rattle.std.proofs.Common.{arith, ap}
 use Rattle.server_core.proofs.Timed.{timed-more, timed-all}
-use Rattle.server_core.proofs.timers.ServerCore.timers.Goals as goal
+use Rattle.server_core.proofs.server.ServerCore.timers.Goals as goal
 
 pub loop-place-preserved : goal.loop-place-preserved
 loop-place-preserved c = timed-more c.args.self.now c.loop-place.self c.timer_at.new.self c.args.timer c.loop-place.place c.loop-place.invariant c.in_ok-timer_at.ensures

@@ -9,7 +9,7 @@ use Rattle.connection_table.proofs.Advancing.{are-beaten}
 use Rattle.server_core.specs.Standing.{around}
 use Rattle.server_core.proofs.Open.{changed-open}
 use Rattle.server_core.proofs.Changed.{stands-changed}
-use Rattle.server_core.proofs.timers.ServerCore.beat.Goals as goal
+use Rattle.server_core.proofs.server.ServerCore.beat.Goals as goal
 
 pub returns : goal.returns
 returns c = λ b s there h.

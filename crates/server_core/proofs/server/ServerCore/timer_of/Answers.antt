@@ -3,7 +3,7 @@ use Rattle.std.proofs.Common.{sym, ◌∙◌, subst}
 use Rattle.server_core.specs.Standing.{Stands}
 use Rattle.server_core.specs.Timing.{has_come, rule_of}
 use Rattle.server_core.proofs.Come.{come-one, not-come-one}
-use Rattle.server_core.proofs.timers.ServerCore.timer_of.Goals as goal
+use Rattle.server_core.proofs.server.ServerCore.timer_of.Goals as goal
 
 pub returns-then-has_come : goal.returns-then-has_come
 returns-then-has_come c = λ b s h.
