@@ -1,4 +1,3 @@
 pub mod SingleActs
-pub mod TakenStays
 pub mod GrowingQueues
 pub mod TakenPrefixes

@@ -32,15 +32,16 @@ use Rattle.machine.proofs.BelowLatest.{BelowLatest, connection_upto}
 use Rattle.machine.proofs.BelowLatest as below
 use Rattle.machine.proofs.Growing.{Grows}
 use Rattle.machine.proofs.Growing as growing
+use Rattle.machine.proofs.GrowingQueues.{queue-grows}
+use Rattle.machine.proofs.TakenStays.{HasTaken, TakenStays, took-stays, removed-stays, appended-stays}
+use Rattle.machine.proofs.TakenStays as taken
 use Rattle.machine.proofs.Runs.{accept-keeps, step-below, start-below}
 use Rattle.attentive_acts.specs.Telling.{state_after}
 use Rattle.attentive_acts.specs.Flags.{has_flag, has_more}
 use Rattle.attentive_acts.specs.Places.{Place, Waits, Asks, Accepts, Reads, Writes, Closes, Leaves}
 use Rattle.attentive_acts.specs.Judging.{Judge, AllowsAt, Follows, IsPiece, judge_after, judged, first_judge}
 use Rattle.attentive_acts.specs.Laws.{taken_in, taken_bytes, AreAttentive, judge_of}
-use Rattle.attentive_acts.proofs.TakenStays.{HasTaken, TakenStays, took-stays, removed-stays, appended-stays}
-use Rattle.attentive_acts.proofs.TakenStays as taken
-use Rattle.attentive_acts.proofs.GrowingQueues.{queue-grows, front-grows, front-more}
+use Rattle.attentive_acts.proofs.GrowingQueues.{front-grows, front-more}
 
 record Holds (latest : ℕ) (s : State) (acts : List Act) : Type 0 where
   known : On (BelowLatest latest) s
@@ -111,7 +112,7 @@ moment_moves latest t s = record {
 
 closed_moves : (latest serial : ℕ) (s : State) → Moves latest s (step s (Closed serial))
 closed_moves latest serial s = record {
-  known = close-keeps (below.invariant latest) serial s;
+  known = λ k. close-keeps (below.invariant latest) serial s (below.closed latest serial s k);
   grew = close-keeps (growing.invariant s.routed) serial s (grown_none s);
   stays = λ n count. removed-stays n count serial s.connections;
 }

@@ -1,0 +1,4 @@
+pub mod WatchFlags
+pub mod Laws
+pub mod Totals
+pub mod MoreActs

@@ -1,1 +1,4 @@
 pub mod Engines
+pub mod Watches
+pub mod Stages
+pub mod Turns

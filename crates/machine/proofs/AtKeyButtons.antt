@@ -50,7 +50,9 @@ invariant = record {
   input = λ o a m p b s h. one o s.active m s b h;
   switched = λ o a to p s on h. one o to (entering p s) (at_screen to p (tell_leaving s)) refl (one Own s.active msg.Leave s refl h);
   fell = λ p s off h. one Own Primary (entering p s) (at_screen Primary p s) refl h;
-  changed = λ serial f tame same s h. h;
-  closed = λ serial s h. h;
+  changed = λ serial f tame same stays s h. h;
+  parts = λ cause serial s on h. h;
+  discards = λ serial s off h. h;
+  logged = λ lines s h. h;
   ahead = λ lines k s h. record { routed = h.routed; rules = h.rules; script = k };
 }

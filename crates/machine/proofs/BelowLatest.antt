@@ -7,14 +7,16 @@ use Rattle.std.proofs.lemmas.Bool.Decides.{nat_tests}
 use Rattle.message_codec.specs.declared.messages.Msg.{Msg}
 use Rattle.message_codec.specs.declared.messages.Msg.TheVariants as msg
 use Rattle.machine.specs.Targets.{Target, Primary, Client, Entry, Origin, Own, same_target}
-use Rattle.machine.specs.Connections.{Connection, has_serial, is_live, changed}
+use Rattle.machine.specs.Connections.{Connection, has_serial, is_live, changed, removed}
 use Rattle.machine.specs.States.{State, Point}
 use Rattle.machine.specs.Combining.{when}
 use Rattle.machine.specs.Queues.{entries_for}
 use Rattle.machine.specs.Routing.{route, entry}
 use Rattle.machine.specs.Switching.{entering, at_screen, tell_leaving}
+use Rattle.machine.specs.Partings.{parted}
+use Rattle.machine.specs.Steps.{drops}
 use Rattle.machine.specs.Screens.{change}
-use Rattle.machine.proofs.Live.{lives_as, IsLive, IsKnown, IsTame}
+use Rattle.machine.proofs.Live.{lives_as, IsLive, IsKnown, IsTame, parted-tame, drops-tame}
 use Rattle.machine.proofs.Invariant.{View, On, IsInvariant}
 use Rattle.machine.proofs.AnyButton.{any, any_origin, rules-any, lines-any}
 use Rattle.machine.proofs.AtKeyButtons.{all-more}
@@ -88,6 +90,9 @@ entered latest o to p s u h = one latest o to (entering p s) (at_screen to p s) 
 pub took : (latest serial : ℕ) (f : Connection → Connection) → IsTame f → (s : State) → On (BelowLatest latest) s → On (BelowLatest latest) (change serial f s)
 took latest serial f tame s h = record { active = h.active; connections = changed_upto latest serial f tame s.connections h.connections; routed = h.routed }
 
+pub closed : (latest serial : ℕ) (s : State) → On (BelowLatest latest) s → On (BelowLatest latest) (record s { connections = removed serial s.connections })
+closed latest serial s h = record { active = h.active; connections = removed_upto latest (λ c. not (has_serial serial c)) s.connections h.connections; routed = h.routed }
+
 pub invariant : (latest : ℕ) → IsInvariant any any_origin (BelowLatest latest)
 invariant latest = record {
   own = refl;
@@ -97,8 +102,10 @@ invariant latest = record {
   input = λ o a m p b s h. one latest o s.active m s h.active h;
   switched = λ o a to p s on h. entered latest o to p (tell_leaving s) (target_upto latest s to on h) (one latest Own s.active msg.Leave s h.active h);
   fell = λ p s off h. entered latest Own Primary p s refl h;
-  changed = λ serial f tame same s h. took latest serial f tame s h;
-  closed = λ serial s h. record { active = h.active; connections = removed_upto latest (λ c. not (has_serial serial c)) s.connections h.connections; routed = h.routed };
+  changed = λ serial f tame same stays s h. took latest serial f tame s h;
+  parts = λ cause serial s on h. took latest serial (parted cause s.at) (parted-tame cause s.at) s h;
+  discards = λ serial s off h. took latest serial drops drops-tame s h;
+  logged = λ lines s h. h;
   ahead = λ lines k s h. h;
 }
 

@@ -7,7 +7,8 @@ use Rattle.hello_states.specs.declared.part_cause.PartCause.{PartCause}
 use Rattle.machine.specs.Connections.{Connection, has_serial, is_live, changed}
 use Rattle.machine.specs.Combining.{when}
 use Rattle.machine.specs.Partings.{parted}
-use Rattle.machine.proofs.Live.{lives_as, IsTame}
+use Rattle.machine.specs.Steps.{drops}
+use Rattle.machine.proofs.Live.{lives_as, IsTame, parted-tame, drops-tame}
 use Rattle.machine.proofs.Invariant.{View, IsInvariant}
 use Rattle.machine.proofs.AnyButton.{any, any_origin, rules-any, lines-any}
 
@@ -38,15 +39,6 @@ unfolding live_count
 changed-fewer serial f tame [] = omega arith
 changed-fewer serial f tame (c ∷ cs) = let here = weight_fewer f tame (has_serial serial c) c in let rest = changed-fewer serial f tame cs in omega arith
 
-removed_fewer : (test : Connection → Bool) (cs : List Connection) → live_count (filter test cs) ≤ live_count cs
-unfolding live_count
-removed_fewer test [] = omega arith
-removed_fewer test (c ∷ cs) = by (test c) (removed_fewer test cs)
-  where
-    by : (b : Bool) → live_count (filter test cs) ≤ live_count cs → live_count (cond b (c ∷ filter test cs) (filter test cs)) ≤ cond (is_live c) 1 0 + live_count cs
-    by true k = omega arith
-    by false k = omega arith
-
 abbrev pub FewLive : ℕ → View → Type 0
 FewLive n v = live_count v.connections ≤ n
 
@@ -59,8 +51,10 @@ invariant n = record {
   input = λ o a m p b s h. h;
   switched = λ o a to p s on h. h;
   fell = λ p s off h. h;
-  changed = λ serial f tame same s h. let less = changed-fewer serial f tame s.connections in omega arith;
-  closed = λ serial s h. let less = removed_fewer (λ c. not (has_serial serial c)) s.connections in omega arith;
+  changed = λ serial f tame same stays s h. let less = changed-fewer serial f tame s.connections in omega arith;
+  parts = λ cause serial s on h. let less = changed-fewer serial (parted cause s.at) (parted-tame cause s.at) s.connections in omega arith;
+  discards = λ serial s off h. let less = changed-fewer serial drops drops-tame s.connections in omega arith;
+  logged = λ lines s h. h;
   ahead = λ lines k s h. h;
 }
 

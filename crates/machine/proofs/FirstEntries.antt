@@ -29,15 +29,15 @@ use Rattle.machine.proofs.NoneSlow.{NoneSlow}
 other_serial : (latest serial : ℕ) (c : Connection) → latest < serial → connection_upto latest c ≡ true → has_serial serial c ≡ false
 other_serial latest serial c a h = grind (arith, nat_tests, a, h)
 
-finds_new : (latest serial : ℕ) (c : Connection) (cs : List Connection) → latest < serial → has_serial serial c ≡ true → list_all (connection_upto latest) cs ≡ true → with_serial serial (cs ++ c ∷ []) ≡ Some c
-finds_new latest serial c [] a e h = by (has_serial serial c) e
+pub finds-new : (latest serial : ℕ) (c : Connection) (cs : List Connection) → latest < serial → has_serial serial c ≡ true → list_all (connection_upto latest) cs ≡ true → with_serial serial (cs ++ c ∷ []) ≡ Some c
+finds-new latest serial c [] a e h = by (has_serial serial c) e
   where
     by : (b : Bool) → b ≡ true → cond b (Some c) None ≡ Some c
     by true k = refl
     by false k = grind (arith, k)
-finds_new latest serial c (d ∷ cs) a e h =
+finds-new latest serial c (d ∷ cs) a e h =
     let parts = and_parts (connection_upto latest d) (list_all (connection_upto latest) cs) h in
-    by (has_serial serial d) (other_serial latest serial d a parts.0) (finds_new latest serial c cs a e parts.1)
+    by (has_serial serial d) (other_serial latest serial d a parts.0) (finds-new latest serial c cs a e parts.1)
   where
     by : (b : Bool) → b ≡ false → with_serial serial (cs ++ c ∷ []) ≡ Some c → cond b (Some d) (with_serial serial (cs ++ c ∷ [])) ≡ Some c
     by true k rest = grind (arith, k)
@@ -66,7 +66,7 @@ full_none latest serial s a below h =
     let new : Connection = fresh serial s.at in
     let is_new : has_serial serial new ≡ true = grind arith in
     let none : NoneSlow (marked cause.Full serial there) = parted_none s.routed latest serial s.at new s.connections a is_new below.connections h in
-    subst (λ (o : Option Connection). NoneSlow (for_some (option_and_then screen_in o) (lose serial) unchanged (marked cause.Full serial there))) (sym (finds_new latest serial new s.connections a is_new below.connections)) none
+    subst (λ (o : Option Connection). NoneSlow (for_some (option_and_then screen_in o) (lose serial) unchanged (marked cause.Full serial there))) (sym (finds-new latest serial new s.connections a is_new below.connections)) none
 
 -- ---- where it is greeted
 

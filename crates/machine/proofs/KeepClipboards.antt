@@ -11,8 +11,9 @@ use Rattle.message_codec.specs.declared.clip_mark.ClipMark.TheVariants as mark
 use Rattle.clip_chunks.specs.Parts.{part, message_of}
 use Rattle.clip_chunks.specs.Sending.{parts_of, chunks_of}
 use Rattle.clip_chunks.specs.Rules as rules
+use Rattle.held_inputs.specs.declared.line.Line.TheVariants as line
 use Rattle.machine.specs.Targets.{Target, Primary, Client, Own, Origin, same_target}
-use Rattle.machine.specs.States.{State}
+use Rattle.machine.specs.States.{State, Local}
 use Rattle.machine.specs.Combining.{unchanged}
 use Rattle.machine.specs.Screens.{screen_of, joined_screens, joined_clients}
 use Rattle.machine.specs.Routing.{route, route_all, route_each}
@@ -35,7 +36,7 @@ end_plain id [] = refl
 end_plain id (c ∷ cs) = end_plain id cs
 
 give-keeps : {key : ℕ → Bool} {allowed : Origin → Bool} {P : View → Type 0} (i : IsInvariant key allowed P) (id : ClipId) (bytes : List ℕ) (t : Target) (s : State) → IsKnown s t → On P s → On P (give id bytes t s)
-give-keeps i id bytes Primary s k h = h
+give-keeps i id bytes Primary s k h = i.logged (Local (line.Clip id bytes) ∷ []) s h
 give-keeps i id bytes (Client n) s k h = route_each-keeps i Own i.own (Client n) (map message_of (parts_of id 0 bytes)) (end_plain id (chunks_of bytes)) s k h
 
 refresh-keeps : {key : ℕ → Bool} {allowed : Origin → Bool} {P : View → Type 0} (i : IsInvariant key allowed P) (id : ClipId) (s : State) → On P s → On P (refresh id s)

@@ -22,7 +22,7 @@ use Rattle.machine.specs.Hello.{rate, is_used, answer}
 use Rattle.machine.specs.Information.{name_of, join, clamp_cursor, reshape, hear_first_info, hear_later_info}
 use Rattle.machine.specs.Hearing.{with_part, parts_from, hear_part, hear_greeting, hear_asked, hear_joined, was_heard, hear_in, hear}
 use Rattle.machine.proofs.Rules.{when-keeps, for_some-keeps}
-use Rattle.machine.proofs.Live.{IsLive, IsTame, KeepsTaken, IsSteady, steady-tame, steady-live, phase-live}
+use Rattle.machine.proofs.Live.{IsLive, IsTame, KeepsTaken, PartsNone, IsSteady, steady-tame, steady-live, phase-live}
 use Rattle.machine.proofs.Invariant.{View, On, IsInvariant}
 use Rattle.machine.proofs.KeepClipboards.{route_each-keeps, grab-keeps, whole-keeps}
 use Rattle.machine.proofs.KeepPartings.{part-keeps, part_slow-keeps}
@@ -52,6 +52,17 @@ advanced-steady phase p c = by (is_live c) refl
     by true e = (refl, ap not p ∙ sym e)
     by false e = (refl, refl)
 
+advanced-parts : (phase : Phase) → is_parting phase ≡ false → PartsNone (advanced phase)
+advanced-parts phase p c = (dropped (is_live c), λ on. (advanced-steady phase p c).1 ∙ on, still (is_live c))
+  where
+    dropped : (b : Bool) → (when b (λ (d : Connection). record d { phase = phase }) c).is_dropped ≡ c.is_dropped
+    dropped true = refl
+    dropped false = refl
+
+    still : (b : Bool) → b ≡ false → (when b (λ (d : Connection). record d { phase = phase }) c).phase ≡ c.phase
+    still true e = absurd cc
+    still false e = refl
+
 heard_parting : (now : ℕ) (phase : Phase) → is_parting (after_hearing_in phase now) ≡ is_parting phase
 heard_parting now (Greeting a) = refl
 heard_parting now (Asked a) = refl
@@ -60,6 +71,15 @@ heard_parting now (Parting a b) = refl
 
 heard-steady : (now : ℕ) → IsSteady (was_heard now)
 heard-steady now c = (refl, ap not (heard_parting now c.phase))
+
+heard_phase : (now : ℕ) (phase : Phase) → not (is_parting phase) ≡ false → after_hearing_in phase now ≡ phase
+heard_phase now (Greeting a) off = cc
+heard_phase now (Asked a) off = cc
+heard_phase now (Joined a) off = cc
+heard_phase now (Parting a b) off = refl
+
+heard-parts : (now : ℕ) → PartsNone (was_heard now)
+heard-parts now c = (refl, λ on. (heard-steady now c).1 ∙ on, heard_phase now c.phase)
 
 with_part-steady : (p : Part) → IsSteady (with_part p)
 with_part-steady p c = (refl, refl)
@@ -70,7 +90,7 @@ hello-keeps : {key : ℕ → Bool} {allowed : Origin → Bool} {P : View → Typ
 hello-keeps i (Refused cause) accepted serial s on h = part-keeps i cause serial s on h
 hello-keeps i (Admitted screen) accepted serial s on h =
     let phase : Phase = after_hello (Admitted screen) accepted (rate s) s.at in
-    i.changed serial (advanced phase) (advanced-tame phase) (advanced-taken phase) (route Own (Client serial) msg.QueryInfo s) (i.plain Own i.own (Client serial) msg.QueryInfo refl s (inr on) h)
+    i.changed serial (advanced phase) (advanced-tame phase) (advanced-taken phase) (advanced-parts phase refl) (route Own (Client serial) msg.QueryInfo s) (i.plain Own i.own (Client serial) msg.QueryInfo refl s (inr on) h)
 
 -- ---- a screen's information
 
@@ -79,13 +99,13 @@ join-keeps i asked shape serial s on h =
     let phase : Phase = asked_after_info (Some shape) s.at asked in
     let before : State = clips_joined asked.screen s in
     let there : State = logs (Join serial (name_of s asked.screen) ∷ []) (change serial (advanced phase) before) in
-    route_each-keeps i Own i.own (Client serial) (msg.InfoAck ∷ msg.ResetOptions ∷ msg.SetOptions (wire_options_of s.config asked.screen) ∷ []) refl there (inr (steady-live serial (advanced phase) (advanced-steady phase refl) s.connections (Client serial) on)) (i.changed serial (advanced phase) (advanced-tame phase) (advanced-taken phase) before h)
+    route_each-keeps i Own i.own (Client serial) (msg.InfoAck ∷ msg.ResetOptions ∷ msg.SetOptions (wire_options_of s.config asked.screen) ∷ []) refl there (inr (steady-live serial (advanced phase) (advanced-steady phase refl) s.connections (Client serial) on)) (i.logged (Join serial (name_of s asked.screen) ∷ []) (change serial (advanced phase) before) (i.changed serial (advanced phase) (advanced-tame phase) (advanced-taken phase) (advanced-parts phase refl) before h))
 
 reshape-keeps : {key : ℕ → Bool} {allowed : Origin → Bool} {P : View → Type 0} (i : IsInvariant key allowed P) (joined : JoinedScreen) (shape : Shape) (serial : ℕ) (s : State) → IsLive s.connections (Client serial) → On P s → On P (reshape joined shape serial s)
 reshape-keeps {P = P} i joined shape serial s on h =
     let phase : Phase = joined_after_info (Some shape) s.at joined in
     let there : State = change serial (advanced phase) s in
-    let after : On P (route Own (Client serial) msg.InfoAck there) = i.plain Own i.own (Client serial) msg.InfoAck refl there (inr (steady-live serial (advanced phase) (advanced-steady phase refl) s.connections (Client serial) on)) (i.changed serial (advanced phase) (advanced-tame phase) (advanced-taken phase) s h) in
+    let after : On P (route Own (Client serial) msg.InfoAck there) = i.plain Own i.own (Client serial) msg.InfoAck refl there (inr (steady-live serial (advanced phase) (advanced-steady phase refl) s.connections (Client serial) on)) (i.changed serial (advanced phase) (advanced-tame phase) (advanced-taken phase) (advanced-parts phase refl) s h) in
     when-keeps (On P) (same_target s.active (Client serial)) (clamp_cursor shape) (λ t k. k) (route Own (Client serial) msg.InfoAck there) after
 
 first_info-keeps : {key : ℕ → Bool} {allowed : Origin → Bool} {P : View → Type 0} (i : IsInvariant key allowed P) (asked : AskedScreen) (o : Option Shape) (serial : ℕ) (s : State) → IsLive s.connections (Client serial) → On P s → On P (hear_first_info asked o serial s)
@@ -101,7 +121,7 @@ later_info-keeps i joined (Some shape) serial s on h = reshape-keeps i joined sh
 hear_part-keeps : {key : ℕ → Bool} {allowed : Origin → Bool} {P : View → Type 0} (i : IsInvariant key allowed P) (p : Part) (serial : ℕ) (s : State) → On P s → On P (hear_part p serial s)
 hear_part-keeps {P = P} i p serial s h =
     let there : State = change serial (with_part p) s in
-    let after : On P there = i.changed serial (with_part p) (steady-tame (with_part p) (with_part-steady p)) (λ c. refl) s h in
+    let after : On P there = i.changed serial (with_part p) (steady-tame (with_part p) (with_part-steady p)) (λ c. refl) (λ c. (refl, λ on. on, λ off. refl)) s h in
     for_some-keeps (On P) (whole_at (clip_limit s) p (parts_from s serial)) (λ bytes. whole p.clip serial p.seq bytes) unchanged there (λ bytes e. whole-keeps i p.clip serial p.seq bytes there after) after
 
 -- ---- messages
@@ -129,5 +149,5 @@ hear-keeps {P = P} i serial m s h = part_slow-keeps i (hear_in (phase_of s seria
     by (Some (Asked asked)) e = asked-keeps i asked m serial s (phase-live serial s (Asked asked) e refl) h
     by (Some (Joined joined)) e =
         let heard = was_heard s.at in
-        joined-keeps i joined m serial (change serial heard s) (steady-live serial heard (heard-steady s.at) s.connections (Client serial) (phase-live serial s (Joined joined) e refl)) (i.changed serial heard (steady-tame heard (heard-steady s.at)) (λ c. refl) s h)
+        joined-keeps i joined m serial (change serial heard s) (steady-live serial heard (heard-steady s.at) s.connections (Client serial) (phase-live serial s (Joined joined) e refl)) (i.changed serial heard (steady-tame heard (heard-steady s.at)) (λ c. refl) (heard-parts s.at) s h)
     by (Some (Parting cause moment)) e = h

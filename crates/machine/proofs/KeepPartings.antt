@@ -6,19 +6,21 @@ use Rattle.std.proofs.lemmas.Bool.{and_parts}
 use Rattle.message_codec.specs.declared.messages.Msg.TheVariants as msg
 use Rattle.hello_states.specs.declared.part_cause.PartCause.{PartCause}
 use Rattle.hello_states.specs.declared.part_cause.PartCause.TheVariants as cause
+use Rattle.hello_states.specs.Causes.{farewell}
 use Rattle.machine.specs.Targets.{Target, Primary, Client, Own, Origin, same_target}
 use Rattle.machine.specs.Connections.{Connection, has_serial, is_live, changed}
-use Rattle.machine.specs.States.{State, Point}
+use Rattle.machine.specs.States.{State, Point, Part}
 use Rattle.machine.specs.Queues.{is_slow}
 use Rattle.machine.specs.Combining.{when, unchanged}
-use Rattle.machine.specs.Screens.{middle}
+use Rattle.machine.specs.Screens.{middle, change}
+use Rattle.machine.specs.Routing.{route}
 use Rattle.machine.specs.Switching.{tell_entering, tell_leaving, switch, fall_back}
 use Rattle.machine.specs.Partings.{lose, say_farewell, parted, marked, screen_joined, part}
 use Rattle.machine.specs.Slow.{is_too_slow, first_slow, part_first_slow, part_slow}
 use Rattle.machine.proofs.Targets.{same_target-is}
 use Rattle.machine.proofs.Rules.{for_some-keeps, times-keeps}
 use Rattle.machine.proofs.Finding.{found-passes}
-use Rattle.machine.proofs.Live.{lives_as, IsLive, IsTame, tested-live}
+use Rattle.machine.proofs.Live.{lives_as, IsLive, tested-live}
 use Rattle.machine.proofs.Invariant.{View, On, IsInvariant}
 use Rattle.machine.proofs.KeepClipboards.{refresh_both-keeps}
 
@@ -31,9 +33,6 @@ fall_back-keeps : {key : ℕ → Bool} {allowed : Origin → Bool} {P : View →
 fall_back-keeps i s off h = refresh_both-keeps i (tell_entering Own Primary (middle s.primary_shape) s) (i.fell (middle s.primary_shape) s off h)
 
 -- ---- partings
-
-pub parted-tame : (cause : PartCause) (now : ℕ) → IsTame (parted cause now)
-parted-tame cause now c = (refl, λ h. grind (arith, h))
 
 -- a connection that was marked doesn't live
 stopped : (n serial : ℕ) (cause : PartCause) (now : ℕ) (cs : List Connection) → (n == serial) ≡ true → list_any (lives_as n) (changed serial (parted cause now) cs) ≡ false
@@ -68,10 +67,13 @@ say_farewell-keeps i cause.Full serial s on h = h
 say_farewell-keeps i cause.Ended serial s on h = h
 say_farewell-keeps i cause.Failed serial s on h = h
 
+told_live : (cause : PartCause) (serial : ℕ) (s : State) → IsLive s.connections (Client serial) → IsLive (say_farewell cause serial s).connections (Client serial)
+told_live cause serial s on = for_some-keeps (λ (t : State). IsLive t.connections (Client serial)) (farewell cause) (route Own (Client serial)) unchanged s (λ m e. on) on
+
 pub part-keeps : {key : ℕ → Bool} {allowed : Origin → Bool} {P : View → Type 0} (i : IsInvariant key allowed P) (cause : PartCause) (serial : ℕ) (s : State) → IsLive s.connections (Client serial) → On P s → On P (part cause serial s)
 part-keeps {P = P} i cause serial s on h =
     let told : State = say_farewell cause serial s in
-    let after : On P (marked cause serial told) = i.changed serial (parted cause told.at) (parted-tame cause told.at) (λ c. refl) told (say_farewell-keeps i cause serial s on h) in
+    let after : On P (marked cause serial told) = i.logged (Part serial cause ∷ []) (change serial (parted cause told.at) told) (i.parts cause serial told (told_live cause serial s on) (say_farewell-keeps i cause serial s on h)) in
     for_some-keeps (On P) (screen_joined s serial) (lose serial) unchanged (marked cause serial told) (λ screen e. lose-keeps i serial screen (marked cause serial told) (marked-off cause serial told) after) after
 
 -- ---- slow connections

@@ -1,7 +1,7 @@
 -- Lines of the script and timers keep every invariant.
 use Rattle.std.specs.Prelude.{◌≡◌, refl, ℕ, nat_le, Bool, true, false, not, List, [], ◌∷◌, if◌then◌else◌}
 use Rattle.std.specs.List.{list_all}
-use Rattle.std.proofs.Common.{arith, ap, inr}
+use Rattle.std.proofs.Common.{arith, ap, inr, ◌∙◌}
 use Rattle.std.proofs.lemmas.Bool.{and_parts}
 use Rattle.message_codec.specs.declared.messages.Msg.TheVariants as msg
 use Rattle.option_table.specs.declared.rows.OptionName.TheVariants as option
@@ -26,7 +26,7 @@ use Rattle.machine.specs.Running.{save, say_bye, quit, does, past, run_line, run
 use Rattle.machine.specs.Timers.{clock, timer, timers, has_died, was_silent, owes_beat, sent_beat, beat, deaths, silences, beats, switch_through, try, gate_timer, after_timers}
 use Rattle.machine.specs.KeyButtons.{pressed_by_line}
 use Rattle.machine.proofs.Rules.{when-keeps, when-keeps-if, choose-keeps, for_some-keeps, for_each-keeps}
-use Rattle.machine.proofs.Live.{IsLive, IsSteady, steady-tame, steady-live, lives-live, found-live, joined-known}
+use Rattle.machine.proofs.Live.{IsLive, PartsNone, IsSteady, steady-tame, steady-live, lives-live, found-live, joined-known}
 use Rattle.machine.proofs.Invariant.{View, On, IsInvariant}
 use Rattle.machine.proofs.KeepClipboards.{route_all-keeps, copy-keeps}
 use Rattle.machine.proofs.KeepPartings.{switch-keeps, part-keeps, part_slow-keeps}
@@ -100,10 +100,19 @@ beat_parting now (Parting a b) = refl
 pub beat-steady : (now : ℕ) → IsSteady (sent_beat now)
 beat-steady now c = (refl, ap not (beat_parting now c.phase))
 
+beat_phase : (now : ℕ) (phase : Phase) → not (is_parting phase) ≡ false → after_beat_in phase now ≡ phase
+beat_phase now (Greeting a) off = cc
+beat_phase now (Asked a) off = cc
+beat_phase now (Joined a) off = cc
+beat_phase now (Parting a b) off = refl
+
+beat-parts : (now : ℕ) → PartsNone (sent_beat now)
+beat-parts now c = (refl, λ on. (beat-steady now c).1 ∙ on, beat_phase now c.phase)
+
 beat-keeps : {key : ℕ → Bool} {allowed : Origin → Bool} {P : View → Type 0} (i : IsInvariant key allowed P) (serial : ℕ) (s : State) → IsLive s.connections (Client serial) → On P s → On P (beat serial s)
 beat-keeps i serial s on h =
     let f = sent_beat s.at in
-    i.plain Own i.own (Client serial) msg.Alive refl (change serial f s) (inr (steady-live serial f (beat-steady s.at) s.connections (Client serial) on)) (i.changed serial f (steady-tame f (beat-steady s.at)) (λ c. refl) s h)
+    i.plain Own i.own (Client serial) msg.Alive refl (change serial f s) (inr (steady-live serial f (beat-steady s.at) s.connections (Client serial) on)) (i.changed serial f (steady-tame f (beat-steady s.at)) (λ c. refl) (beat-parts s.at) s h)
 
 -- ---- the gate
 

@@ -3,11 +3,14 @@ use Rattle.std.specs.Prelude.{◌≡◌, ℕ, Bool, true, false, not, ◌&&◌, 
 use Rattle.std.specs.List.{list_any, find, filter_map, cons_option}
 use Rattle.std.specs.Option.{option_map, option_map_or}
 use Rattle.std.proofs.Common.{arith, sym, ap, ◌∙◌, subst, inr, refl}
+use Rattle.hello_states.specs.declared.part_cause.PartCause.{PartCause}
 use Rattle.hello_states.specs.Phases.{Phase, Greeting, Asked, Joined, Parting, is_parting, joined_screen}
 use Rattle.machine.specs.Targets.{Target, Primary, Client}
 use Rattle.machine.specs.Connections.{Connection, has_serial, with_serial, is_live, changed_at, changed, removed}
 use Rattle.machine.specs.States.{State}
 use Rattle.machine.specs.Combining.{when}
+use Rattle.machine.specs.Partings.{parted}
+use Rattle.machine.specs.Steps.{drops}
 use Rattle.machine.specs.Screens.{connection, phase_of, lives, screen_in, is_number, is_joined_as, client_as, target_of, joined_clients}
 use Rattle.machine.proofs.Finding.{none_some, some_is, found-passes, found-any}
 
@@ -32,9 +35,19 @@ AllKnown s (t ∷ ts) = IsKnown s t × AllKnown s ts
 abbrev pub IsTame : (Connection → Connection) → Type 0
 IsTame f = (c : Connection) → ((f c).serial ≡ c.serial) × (is_live (f c) ≡ true → is_live c ≡ true)
 
+pub parted-tame : (cause : PartCause) (now : ℕ) → IsTame (parted cause now)
+parted-tame cause now c = (refl, λ h. grind (arith, h))
+
+pub drops-tame : IsTame drops
+drops-tame c = (refl, λ h. h)
+
 -- it has taken as much as before
 abbrev pub KeepsTaken : (Connection → Connection) → Type 0
 KeepsTaken f = (c : Connection) → (f c).taken ≡ c.taken
+
+-- who lives goes on living, who is parting stays as it is, and what is dropped stays so
+abbrev pub PartsNone : (Connection → Connection) → Type 0
+PartsNone f = (c : Connection) → ((f c).is_dropped ≡ c.is_dropped) × (is_live c ≡ true → is_live (f c) ≡ true) × (is_live c ≡ false → (f c).phase ≡ c.phase)
 
 tame_one : (n serial : ℕ) (f : Connection → Connection) → IsTame f → (b : Bool) (c : Connection) → lives_as n (when b f c) ≡ true → lives_as n c ≡ true
 tame_one n serial f tame true c h =

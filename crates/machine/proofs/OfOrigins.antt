@@ -47,7 +47,9 @@ invariant test own was = record {
   input = λ o a m p b s h. route-other test was o s.active m a s h;
   switched = λ o a to p s on h. route-other test was o to (entering p s) a (at_screen to p (tell_leaving s)) (route-other test was Own s.active msg.Leave (grind (arith, own)) s h);
   fell = λ p s off h. route-other test was Own Primary (entering p s) (grind (arith, own)) (at_screen Primary p s) h;
-  changed = λ serial f tame same s h. h;
-  closed = λ serial s h. h;
+  changed = λ serial f tame same stays s h. h;
+  parts = λ cause serial s on h. h;
+  discards = λ serial s off h. h;
+  logged = λ lines s h. h;
   ahead = λ lines k s h. h;
 }

@@ -16,8 +16,10 @@ use Rattle.machine.proofs.Targets.{same_target-refl, same_target-is, same_target
 use Rattle.machine.proofs.OfTargets.{messages-more}
 use Rattle.machine.proofs.MessageKinds.{is_plain, is_input}
 use Rattle.machine.proofs.LeftDown.{IsQuiet, IsSince, quiet-plain, quiet-leave, since-plain, since-input, since-enter}
-use Rattle.machine.proofs.Live.{IsLive, IsKnown, IsTame, changed-live, removed-live}
+use Rattle.machine.proofs.Live.{IsLive, IsKnown, IsTame, parted-tame, drops-tame, changed-live, removed-live}
 use Rattle.machine.specs.Screens.{change}
+use Rattle.machine.specs.Partings.{parted}
+use Rattle.machine.specs.Steps.{drops}
 use Rattle.machine.proofs.Invariant.{View, On, IsInvariant}
 use Rattle.machine.proofs.AnyButton.{any, any_origin, rules-any, lines-any}
 
@@ -87,6 +89,9 @@ fewer s cs less h = record { quiet = λ t d on. h.quiet t d (less t on); since =
 pub took : (serial : ℕ) (f : Connection → Connection) → IsTame f → (s : State) → On OnlyActive s → On OnlyActive (change serial f s)
 took serial f tame s h = fewer s (changed serial f s.connections) (changed-live serial f tame s.connections) h
 
+pub closed : (serial : ℕ) (s : State) → On OnlyActive s → On OnlyActive (record s { connections = removed serial s.connections })
+closed serial s h = fewer s (removed serial s.connections) (removed-live serial s.connections) h
+
 pub invariant : IsInvariant any any_origin OnlyActive
 invariant = record {
   own = refl;
@@ -96,7 +101,9 @@ invariant = record {
   input = input;
   switched = λ o a to p s on h. entered o to p (tell_leaving s) on (left s h);
   fell = λ p s off h. entered Own Primary p s tt (lost s off h);
-  changed = λ serial f tame same s h. took serial f tame s h;
-  closed = λ serial s h. fewer s (removed serial s.connections) (removed-live serial s.connections) h;
+  changed = λ serial f tame same stays s h. took serial f tame s h;
+  parts = λ cause serial s on h. took serial (parted cause s.at) (parted-tame cause s.at) s h;
+  discards = λ serial s off h. took serial drops drops-tame s h;
+  logged = λ lines s h. h;
   ahead = λ lines k s h. h;
 }

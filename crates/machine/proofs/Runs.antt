@@ -37,15 +37,15 @@ use Rattle.machine.proofs.FirstEntries.{accept-none}
 
 -- ---- a new connection
 
-new_live : (serial : ℕ) (s : State) → IsLive (opened serial s).connections (Client serial)
-new_live serial s = list_any-append (lives_as serial) s.connections (fresh serial s.at ∷ []) ∙ later (list_any (lives_as serial) s.connections) (grind arith)
+pub new-live : (serial : ℕ) (s : State) → IsLive (opened serial s).connections (Client serial)
+new-live serial s = list_any-append (lives_as serial) s.connections (fresh serial s.at ∷ []) ∙ later (list_any (lives_as serial) s.connections) (grind arith)
   where
     later : (b : Bool) → lives_as serial (fresh serial s.at) ≡ true → (b || (lives_as serial (fresh serial s.at) || false)) ≡ true
     later b h = grind (arith, h)
 
 -- what the opened state keeps, acceptance keeps
 pub accept-keeps : {key : ℕ → Bool} {allowed : Origin → Bool} {P : View → Type 0} (i : IsInvariant key allowed P) (serial : ℕ) (s : State) → On P (opened serial s) → On P (accept serial s)
-accept-keeps {P = P} i serial s h = choose-keeps (On P) (nat_le most_open (length s.connections)) (part cause.Full serial) (greet serial) (opened serial s) (λ e. part-keeps i cause.Full serial (opened serial s) (new_live serial s) h) (λ e. i.plain Own i.own (Client serial) (msg.Hello 1 6) refl (opened serial s) (inr (new_live serial s)) h)
+accept-keeps {P = P} i serial s h = choose-keeps (On P) (nat_le most_open (length s.connections)) (part cause.Full serial) (greet serial) (opened serial s) (λ e. part-keeps i cause.Full serial (opened serial s) (new-live serial s) h) (λ e. i.plain Own i.own (Client serial) (msg.Hello 1 6) refl (opened serial s) (inr (new-live serial s)) h)
 
 upto_more : (latest serial : ℕ) (t : Target) → latest < serial → is_upto latest t ≡ true → is_upto serial t ≡ true
 upto_more latest serial Primary a h = refl
@@ -92,7 +92,7 @@ step-below latest s (Ended serial) a k = breaks-keeps (below.invariant latest) c
 step-below latest s (Failed serial) a k = breaks-keeps (below.invariant latest) cause.Failed serial s k
 step-below latest s (Took serial count) a k = below.took latest serial (takes count) (takes-tame count) s k
 step-below latest s (Moment t) a k = moment-keeps (below.invariant latest) (λ n. refl) (λ n. refl) t s k
-step-below latest s (Closed serial) a k = close-keeps (below.invariant latest) serial s k
+step-below latest s (Closed serial) a k = close-keeps (below.invariant latest) serial s (below.closed latest serial s k)
 
 pub step-only : (latest : ℕ) (s : State) (h : Happening) → IsAllowed latest s h → On (BelowLatest latest) s → On OnlyActive s → On OnlyActive (step s h)
 step-only latest s (Joined serial) a b k = accept-keeps only.invariant serial s (opened_only latest serial s a b k)
@@ -101,7 +101,7 @@ step-only latest s (Ended serial) a b k = breaks-keeps only.invariant cause.Ende
 step-only latest s (Failed serial) a b k = breaks-keeps only.invariant cause.Failed serial s k
 step-only latest s (Took serial count) a b k = only.took serial (takes count) (takes-tame count) s k
 step-only latest s (Moment t) a b k = moment-keeps only.invariant (λ n. refl) (λ n. refl) t s k
-step-only latest s (Closed serial) a b k = close-keeps only.invariant serial s k
+step-only latest s (Closed serial) a b k = close-keeps only.invariant serial s (only.closed serial s k)
 
 pub step-keys : (s : State) (h : Happening) → On AtKeyButtons s → On AtKeyButtons (step s h)
 step-keys s (Joined serial) k = accept-keeps keys.invariant serial s (record { routed = k.routed; rules = k.rules; script = k.script })

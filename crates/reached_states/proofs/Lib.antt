@@ -1,1 +1,9 @@
 pub mod Reaching
+pub mod ReachedAll
+pub mod NewSerials
+pub mod GrowingLog
+pub mod OpenAfter
+pub mod Rising
+pub mod FewOpen
+pub mod Taken
+pub mod Promises

@@ -1,1 +1,6 @@
 pub mod Reaching
+pub mod NewSerials
+pub mod Growing
+pub mod OpenSerials
+pub mod FewOpen
+pub mod Promises

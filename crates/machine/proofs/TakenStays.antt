@@ -4,9 +4,10 @@ use Rattle.std.proofs.Common.{arith, ap, sym, subst, ◌∙◌}
 use Rattle.std.proofs.lemmas.Bool.Decides.{nat_tests}
 use Rattle.machine.specs.Connections.{Connection, has_serial, with_serial, changed, changed_at, removed}
 use Rattle.machine.specs.Combining.{when}
-use Rattle.machine.specs.Steps.{takes}
+use Rattle.machine.specs.Partings.{parted}
+use Rattle.machine.specs.Steps.{takes, drops}
 use Rattle.machine.proofs.KeepSteps.{takes-tame}
-use Rattle.machine.proofs.Live.{IsTame, KeepsTaken}
+use Rattle.machine.proofs.Live.{IsTame, KeepsTaken, parted-tame, drops-tame}
 use Rattle.machine.proofs.Finding.{none_some, some_is}
 use Rattle.machine.proofs.Invariant.{View, IsInvariant}
 use Rattle.machine.proofs.AnyButton.{any, any_origin, rules-any, lines-any}
@@ -78,8 +79,10 @@ invariant n count = record {
   input = λ o a m p b s h. h;
   switched = λ o a to p s on h. h;
   fell = λ p s off h. h;
-  changed = λ serial f tame same s h. changed_stays n count serial f tame same s.connections h;
-  closed = λ serial s h. removed_stays n count serial s.connections h;
+  changed = λ serial f tame same stays s h. changed_stays n count serial f tame same s.connections h;
+  parts = λ cause serial s on h. changed_stays n count serial (parted cause s.at) (parted-tame cause s.at) (λ c. refl) s.connections h;
+  discards = λ serial s off h. changed_stays n count serial drops drops-tame (λ c. refl) s.connections h;
+  logged = λ lines s h. h;
   ahead = λ lines k s h. h;
 }
 

@@ -1,0 +1,75 @@
+//! The loop itself.
+
+ghost use Rattle.std.specs.Prelude.{◌≡◌, ◌<◌, false, length, OnOk};
+ghost use Rattle.share_base.specs.Writing.{SinkState};
+ghost use Rattle.attentive_acts.specs.Judging.{most_moved};
+ghost use Rattle.engine_loop.specs.Watches.{serials_in};
+ghost use Rattle.engine_loop.specs.Stages.{Course, IsSomewhere, IsWaiting, IsTurned};
+ghost use Rattle.engine_loop.specs.Turns.{LogsOn, Heeds, AfterTurn, Logged, waited_once};
+
+use crate::accepting::accept_each;
+use crate::closing::close_each;
+use crate::engine::Engine;
+use crate::reading::read_each;
+use crate::serve_end::ServeEnd;
+use crate::waiting::{ask_moment, wait_once};
+use crate::watch::Watch;
+use crate::writing::write_each;
+use hub_acts::{Hub, ReadyList};
+use share_base::{OutOfMemory, Sink, write_all};
+
+/// Writes what the log has, and clears it. `WriteFault` comes where the sink failed.
+fn write_log<E: Engine, K: Sink>(core: &mut E, out: &mut K) -> Result<(), ServeEnd>
+    ensures serves { LogsOn E.serves result core.old core.new (K.state out.old) (K.state out.new) }
+    ensures departs { LogsOn E.departs result core.old core.new (K.state out.old) (K.state out.new) }
+{
+    if !write_all(out, core.log()) {
+        return Err(ServeEnd::WriteFault);
+    }
+    core.clear_log();
+    Ok(())
+}
+
+/// Writes the log after a step of a turn, unless memory ran out in it.
+fn end_step<E: Engine, K: Sink>(
+    done: Result<(), OutOfMemory>,
+    core: &mut E,
+    out: &mut K,
+) -> Result<(), ServeEnd>
+    ensures { Heeds E.serves done result core.old core.new (K.state out.old) (K.state out.new) }
+{
+    match done {
+        Ok(()) => write_log(core, out),
+        Err(_) => Err(ServeEnd::OutOfMemory),
+    }
+}
+
+/// Makes one turn.
+fn turn<E: Engine, H: Hub, K: Sink>(
+    core: &mut E,
+    hub: &mut H,
+    out: &mut K,
+    watch: &mut Watch,
+    ready: &mut ReadyList,
+    buffer: &mut [u8],
+) -> Result<(), ServeEnd>
+    requires same { serials_in watch.old ≡ (H.state hub.old).open_now }
+    requires room { length buffer.old ≡ most_moved }
+    requires there { IsSomewhere E.serves H.state H.leads core.old hub.old watch.old IsWaiting }
+    ensures same { OnOk result (serials_in watch.new ≡ (H.state hub.new).open_now) }
+    ensures turns { (old : SinkState) (r : Course H) → r.failed ≡ false
+        → Logged E.serves H.state H.leads r core.old hub.old watch.old old (K.state out.old) IsWaiting
+        → AfterTurn E.serves H.state H.leads r result core.new hub.new watch.new
+            old (K.state out.new) IsWaiting }
+{
+    wait_once(core, hub, watch, ready)?;
+    end_step(ask_moment(core, hub, watch), core, out)?;
+    end_step(accept_each(core, hub, watch), core, out)?;
+    end_step(read_each(core, hub, watch, buffer), core, out)?;
+    end_step(write_each(core, hub, watch), core, out)?;
+    end_step(close_each(core, hub, watch), core, out)?;
+    if core.over() {
+        return Err(ServeEnd::Quit);
+    }
+    Ok(())
+}
