@@ -197,3 +197,14 @@ are-beaten a n now ks ls cs h g = are-advanced a n (λ p. after_beat_in p now) (
 
 pub are-heard : (a : Surroundings) (n now : ℕ) (ks ls : List kept.Connection) (cs : List Connection) → AreFor a ks cs → ChangesAt n (Advances (λ p. after_hearing_in p now)) ks ls → AreFor a ls (changed n (was_heard now) cs)
 are-heard a n now ks ls cs h g = are-advanced a n (λ p. after_hearing_in p now) (was_heard now) ks ls cs (hearing-course now).ends (λ c e k. (hearing-course now).keeps a.count c.phase k) (λ c. refl) (λ c e. refl) h g
+
+-- what is so of each connection for which one is kept is so of the one that is found
+pub pairs-found : (R : kept.Connection → Connection → Type 0) (P : Connection → Type 0) (t : Connection → Bool) → ((k : kept.Connection) (c : Connection) → R k c → P c) → (low : ℕ) (ks : List kept.Connection) (cs : List Connection) (c : Connection) → find t cs ≡ Some c → Pairs R low ks cs → P c
+pairs-found R P t each low [] [] c e h = absurd (let x : ⊥ = cc in x)
+pairs-found R P t each low [] (d ∷ cs) c e h = absurd h
+pairs-found R P t each low (k ∷ ks) [] c e h = absurd h
+pairs-found R P t each low (k ∷ ks) (d ∷ cs) c e h = by (t d) e (λ f. pairs-found R P t each d.serial ks cs c f h.2)
+  where
+    by : (b : Bool) → cond b (Some d) (find t cs) ≡ Some c → (find t cs ≡ Some c → P c) → P c
+    by true e later = let is : d ≡ c = cc in subst P is (each k d h.1)
+    by false e later = later e

@@ -76,7 +76,7 @@ impl Phase {
             Phase::Greeting(greeting) => Phase::Parting(greeting.part(cause, now)),
             Phase::Asked(asked) => Phase::Parting(asked.part(cause, now)),
             Phase::Joined(joined) => Phase::Parting(joined.part(cause, now)),
-            Phase::Parting(parting) => Phase::Parting(parting),
+            Phase::Parting(already) => Phase::Parting(already),
         }
     }
 

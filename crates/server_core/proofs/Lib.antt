@@ -31,3 +31,11 @@ pub mod Passed
 pub mod JoinedScreens
 pub mod Promised
 pub mod Driven
+pub mod Indexed
+pub mod Known
+pub mod Added
+pub mod Admitted
+pub mod Grabs
+pub mod TellOthers
+pub mod Options
+pub mod Dispatch

@@ -17,3 +17,8 @@ pub mod Around
 pub mod Passing
 pub mod Driving
 pub mod Promises
+pub mod Others
+pub mod Using
+pub mod Accepting
+pub mod Joining
+pub mod Hearing

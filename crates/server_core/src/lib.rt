@@ -5,6 +5,7 @@
 //! no time but the moment that it is told.
 #![tactic(auto)]
 
+mod accepting;
 mod actions;
 mod clipboards;
 mod clock;
@@ -13,6 +14,10 @@ mod cursor;
 mod events;
 mod gate;
 mod inputs;
+mod grabs;
+mod hearing;
+mod hello;
+mod information;
 mod joined;
 mod log_lines;
 mod motion;

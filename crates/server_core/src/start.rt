@@ -23,7 +23,7 @@ use server_log::{Log, Primary};
 use share_base::{OutOfMemory, Shape};
 
 /// How many bytes a unit of the option on shared clipboards has.
-const SHARING_UNIT: u32 = 1024;
+pub(crate) const SHARING_UNIT: u32 = 1024;
 
 // The shape of the primary screen.
 fn first_shape(script: &Script) -> Shape

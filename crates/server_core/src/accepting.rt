@@ -1,0 +1,52 @@
+//! The acceptance of a connection.
+
+ghost use Rattle.std.specs.Prelude.{OnOk};
+ghost use Rattle.machine.specs.States.{State};
+ghost use Rattle.machine.specs.Acceptance as acceptance;
+ghost use Rattle.server_core.specs.Accepting.{IsNew};
+ghost use Rattle.server_core.specs.Standing.{Beside, Stands, IsBlank};
+
+use crate::server::ServerCore;
+use crate::target::Target;
+use connection_table::Connection;
+use hello_states::{PROTOCOL_MAJOR, PROTOCOL_MINOR, PartCause};
+use message_codec::Msg;
+use share_base::OutOfMemory;
+
+/// How many connections may be open before one more is accepted.
+const MOST_OPEN: usize = 64;
+
+impl ServerCore {
+    /// Accepts the connection of a serial that is greater than those of all others, and of which nothing
+    /// was heard. Where 64 are open already, it parts at once; else it is greeted.
+    pub fn accept(&mut self, serial: u64) -> Result<(), OutOfMemory>
+        ensures { OnOk result ((b : Beside) (s : State) → IsBlank serial b → IsNew serial s
+            → Stands b self.old s → Stands b self.new (acceptance.accept serial s)) }
+    {
+        let open = self.table.as_slice().len();
+        self.open(serial)?;
+        if open >= MOST_OPEN {
+            self.part(PartCause::Full, serial)?;
+            return Ok(());
+        }
+        let hello = Msg::Hello {
+            major: PROTOCOL_MAJOR,
+            minor: PROTOCOL_MINOR,
+        };
+        self.route(Target::Client(serial), &hello)?;
+        Ok(())
+    }
+
+    // Opens the connection of a serial that is greater than those of all others, and logs it.
+    fn open(&mut self, serial: u64) -> Result<(), OutOfMemory>
+        ensures { OnOk result ((b : Beside) (s : State) → IsBlank serial b → IsNew serial s
+            → Stands b self.old s → Stands b self.new (acceptance.opened serial s)) }
+    {
+        let alloc = self.config.alloc();
+        let limit = self.clip_limit();
+        let connection = Connection::begin(alloc, serial, self.at, limit);
+        self.table.add(connection)?;
+        self.log_open(serial)?;
+        Ok(())
+    }
+}
