@@ -3,5 +3,4 @@ pub mod Pairs
 pub mod PartsTaken
 pub mod Standing
 pub mod Places
-pub mod DueOnes
 pub mod Advancing

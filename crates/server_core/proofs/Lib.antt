@@ -31,7 +31,6 @@ pub mod Passed
 pub mod JoinedScreens
 pub mod Promised
 pub mod Driven
-pub mod Indexed
 pub mod Known
 pub mod Added
 pub mod Admitted

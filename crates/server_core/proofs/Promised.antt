@@ -9,14 +9,10 @@ use Rattle.script_screen.specs.Scripts.{ScriptText, IsScript, IsScriptLine, AreS
 use Rattle.machine.specs.States.{State}
 use Rattle.machine.specs.KeyButtons.{is_script_button, pressed_by_line}
 use Rattle.machine.specs.Happenings.{Happening}
-use Rattle.machine.specs.Held.{HasScriptButtons, OnlyActiveHolds}
-use Rattle.machine.specs.NothingLeftOut.{NothingIsLeftOut}
-use Rattle.machine.specs.OneForOne.{IsOneForOne, lines_run}
-use Rattle.machine.specs.Steps.{run}
-use Rattle.machine.proofs.HeldLaw.{held, nothing_left_out}
-use Rattle.machine.proofs.OneForOneLaw.{one_for_one}
-use Rattle.reached_states.specs.Reaching.{Origin, start_of, Reached}
+use Rattle.machine.specs.Held.{HasScriptButtons}
+use Rattle.reached_states.specs.Reaching.{Origin, Reached}
 use Rattle.reached_states.proofs.Reaching.{goes-on}
+use Rattle.reached_states.proofs.Promises.{held-where-reached, all-queued-where-reached, one-for-one-where-reached}
 use Rattle.engine_loop.specs.Engines.{Steps}
 use Rattle.server_core.specs.declared.server.ServerCore.{ServerCore}
 use Rattle.server_core.specs.Lines.{line_of}
@@ -55,14 +51,13 @@ has-script-buttons script h = all_buttons [] script.lines h.lines
 
 pub runs : (o : Origin) (latest : ℕ) (front : List ℕ) (core : ServerCore) (s : State) → IsStart o → Reached o latest s → Serves front core s → Runs o latest front core s
 runs o latest front core s begins reached h =
-    let same : run reached.happenings (start_of o) ≡ s = sym reached.by.state in
     record {
       begins = begins;
       reached = reached;
       serves = h;
-      held = subst (λ (t : State). OnlyActiveHolds t) same (held o.config o.script o.now reached.happenings begins.config begins.script reached.by.allowed);
-      left_out = subst (λ (t : State). NothingIsLeftOut t) same (nothing_left_out o.config o.script o.now reached.happenings reached.by.allowed);
-      one_for_one = subst (λ (t : State). IsOneForOne (lines_run reached.happenings (start_of o)) t) same (one_for_one o.config o.script o.now reached.happenings);
+      held = held-where-reached o latest s reached begins.config begins.script;
+      left_out = all-queued-where-reached o latest s reached;
+      one_for_one = one-for-one-where-reached o reached.happenings latest s reached.by;
     }
 
 pub goes-on-running : (h : Happening) (old new : ServerCore) → Steps serves old new h → GoesOnRunning h old new
