@@ -44,7 +44,7 @@ impl ServerCore {
     {
         let alloc = self.config.alloc();
         let limit = self.clip_limit();
-        let connection = Connection::begin(alloc, serial, self.at, limit);
+        let connection = Connection::begin(alloc, serial, self.at.moment(), limit);
         self.table.add(connection)?;
         self.log_open(serial)?;
         Ok(())

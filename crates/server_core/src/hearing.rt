@@ -94,7 +94,7 @@ impl ServerCore {
         ensures { Leads self.old self.new
             (λ s. screens.change serial (hearing.was_heard s.at) s) }
     {
-        self.table.hear(serial, self.at);
+        self.table.hear(serial, self.at.moment());
     }
 
     // Hears a message of a joined connection that was counted as heard.

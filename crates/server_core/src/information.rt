@@ -75,7 +75,7 @@ impl ServerCore {
             self.old self.new
             (λ s. change serial (advanced (asked_after_info (Some shape) s.at asked)) s) }
     {
-        self.table.join(serial, shape, self.at);
+        self.table.join(serial, shape, self.at.moment());
     }
 
     // Logs that a connection joined as a screen of the configuration.
@@ -145,7 +145,7 @@ impl ServerCore {
         ensures { LeadsHeard serial self.old self.new
             (λ joined s. change serial (advanced (joined_after_info (Some shape) s.at joined)) s) }
     {
-        self.table.reshape(serial, shape, self.at);
+        self.table.reshape(serial, shape, self.at.moment());
     }
 
     // Where the cursor is at a connection's screen, it stays inside of that shape.
@@ -155,7 +155,7 @@ impl ServerCore {
             (information.clamp_cursor shape) s) }
     {
         if self.is_active(serial) {
-            let inside = clamped(&shape, self.cursor);
+            let inside = clamped(&shape, self.cursor.point());
             self.put_cursor(inside);
         }
     }

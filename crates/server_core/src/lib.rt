@@ -33,6 +33,7 @@ mod script_tests;
 mod server;
 mod slow;
 mod start;
+mod stepping;
 mod switching;
 mod target;
 mod timers;
