@@ -32,6 +32,7 @@ use Rattle.machine.proofs.OpenSerials.{changed-serials, removed-serials}
 use Rattle.reached_states.specs.OpenSerials.{Rise}
 use Rattle.reached_states.specs.FewOpen.{is_full_in, is_counted, FewAreOpen}
 use Rattle.reached_states.proofs.ReachedAll.{reached-all-below}
+use Rattle.reached_states.proofs.EachConnection.{or-true, each-kept, all-fewer}
 use Rattle.reached_states.proofs.Rising.{above-same, above-none, rise-push, rise-filter}
 
 -- ---- one connection
@@ -61,10 +62,6 @@ counted_kept f none c h =
     let off : is_live c ≡ false = full_off c.phase (not_not (is_full_in c.phase) h) in
     ap (λ (phase : Phase). not (is_full_in phase)) ((none c).2 off) ∙ h
 
-or_true : (a : Bool) → (a || true) ≡ true
-or_true true = refl
-or_true false = refl
-
 drops_kept : (f : Connection → Connection) → PartsNone f → (c : Connection) → full_drops c ≡ true → full_drops (f c) ≡ true
 drops_kept f none c h = at (is_live c) refl
   where
@@ -76,17 +73,7 @@ cause_drops : (why : PartCause) (moment : ℕ) → (not (is_full_in (Parting why
 cause_drops cause.Full moment = refl
 cause_drops why moment = refl
 
--- ---- all of them
-
-each_kept : (test : Connection → Bool) (f : Connection → Connection) (serial : ℕ) → ((c : Connection) → test c ≡ true → test (f c) ≡ true) → (cs : List Connection) → list_all test cs ≡ true → list_all test (changed serial f cs) ≡ true
-each_kept test f serial k [] h = refl
-each_kept test f serial k (c ∷ cs) h =
-    let parts = and_parts (test c) (list_all test cs) h in
-    and_from (test (changed_at serial f c)) (list_all test (changed serial f cs)) (at (has_serial serial c) parts.0) (each_kept test f serial k cs parts.1)
-  where
-    at : (b : Bool) → test c ≡ true → test (when b f c) ≡ true
-    at true e = k c e
-    at false e = e
+-- ---- how many are counted
 
 counts : (c d : Connection) (cs ds : List Connection) → (is_counted c ≡ false → is_counted d ≡ false) → length (filter is_counted ds) ≤ length (filter is_counted cs) → length (filter is_counted (d ∷ ds)) ≤ length (filter is_counted (c ∷ cs))
 counts c d cs ds k rest = at (is_counted d) refl (is_counted c) refl
@@ -137,14 +124,6 @@ count_fewer keep (c ∷ cs) = at (keep c) (count_fewer keep cs)
     at true rest = counts c c cs (filter keep cs) (λ off. off) rest
     at false rest = more (is_counted c) rest
 
-all_fewer : (test keep : Connection → Bool) (cs : List Connection) → list_all test cs ≡ true → list_all test (filter keep cs) ≡ true
-all_fewer test keep [] h = refl
-all_fewer test keep (c ∷ cs) h = let parts = and_parts (test c) (list_all test cs) h in at (keep c) parts.0 (all_fewer test keep cs parts.1)
-  where
-    at : (b : Bool) → test c ≡ true → list_all test (filter keep cs) ≡ true → list_all test (cond b (c ∷ filter keep cs) (filter keep cs)) ≡ true
-    at true here rest = and_from (test c) (list_all test (filter keep cs)) here rest
-    at false here rest = rest
-
 count_upto : (cs : List Connection) → length (filter is_counted cs) ≤ length cs
 count_upto [] = omega arith
 count_upto (c ∷ cs) = at (is_counted c) (count_upto cs)
@@ -169,7 +148,7 @@ few_changed serial f tame none cs h =
     let most = h.few in
     record {
       rise = subst (Rise 0) (sym (changed-serials serial f tame cs)) h.rise;
-      dropped = each_kept full_drops f serial (drops_kept f none) cs h.dropped;
+      dropped = each-kept full_drops f serial (drops_kept f none) cs h.dropped;
       few = omega arith;
     }
 
@@ -179,7 +158,7 @@ few_dropped serial cs h =
     let most = h.few in
     record {
       rise = subst (Rise 0) (sym (changed-serials serial drops drops-tame cs)) h.rise;
-      dropped = each_kept full_drops drops serial (λ c e. or_true (is_counted c)) cs h.dropped;
+      dropped = each-kept full_drops drops serial (λ c e. or-true (is_counted c)) cs h.dropped;
       few = omega arith;
     }
 
@@ -189,7 +168,7 @@ few_parted serial why now cs on h =
     let most = h.few in
     record {
       rise = subst (Rise 0) (sym (changed-serials serial (parted why now) (parted-tame why now) cs)) h.rise;
-      dropped = each_kept full_drops (parted why now) serial (λ c e. cause_drops why _) cs h.dropped;
+      dropped = each-kept full_drops (parted why now) serial (λ c e. cause_drops why _) cs h.dropped;
       few = omega arith;
     }
 
@@ -249,7 +228,7 @@ few_full latest serial s above below h =
     let most = h.few in
     let done : On Few (marked cause.Full serial there) = record {
       rise = subst (Rise 0) (sym (changed-serials serial (parted cause.Full s.at) (parted-tame cause.Full s.at) there.connections)) rises;
-      dropped = each_kept full_drops (parted cause.Full s.at) serial (λ c e. refl) there.connections (all_append full_drops s.connections (new ∷ []) h.dropped refl);
+      dropped = each-kept full_drops (parted cause.Full s.at) serial (λ c e. refl) there.connections (all_append full_drops s.connections (new ∷ []) h.dropped refl);
       few = omega arith;
     } in
     subst (λ (o : Option Connection). On Few (for_some (option_and_then screen_in o) (lose serial) unchanged (marked cause.Full serial there))) (sym (finds-new latest serial new s.connections above is_new below.connections)) done
@@ -269,7 +248,7 @@ few_step latest s (happening.Closed serial) a below k =
     let most = k.few in
     close-keeps invariant serial s (record {
       rise = subst (Rise 0) (sym (removed-serials serial s.connections)) (rise-filter (λ n. not (n == serial)) 0 (serials s.connections) k.rise);
-      dropped = all_fewer full_drops (λ c. not (has_serial serial c)) s.connections k.dropped;
+      dropped = all-fewer full_drops (λ c. not (has_serial serial c)) s.connections k.dropped;
       few = omega arith;
     })
 

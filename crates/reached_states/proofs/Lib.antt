@@ -7,3 +7,5 @@ pub mod Rising
 pub mod FewOpen
 pub mod Taken
 pub mod Promises
+pub mod EachConnection
+pub mod Dropped

@@ -1,15 +1,16 @@
 -- The serials of the connections rise.
-use Rattle.std.specs.Prelude.{◌≡◌, refl, ℕ, ◌<◌, ◌≤◌, nat_le, Bool, true, false, not, ◌&&◌, ◌||◌, ◌==◌, cond, List, [], ◌∷◌, ◌++◌, filter, All}
-use Rattle.std.specs.List.{list_all, list_any}
+use Rattle.std.specs.Prelude.{◌≡◌, refl, ℕ, ◌<◌, ◌≤◌, nat_le, Bool, true, false, not, ◌&&◌, ◌||◌, ◌==◌, cond, List, [], ◌∷◌, ◌++◌, filter, All, Some}
+use Rattle.std.specs.List.{list_all, list_any, find}
 use Rattle.std.proofs.Common.{arith, ap, sym, subst, ◌∙◌}
 use Rattle.std.proofs.lemmas.Bool.{and_parts}
 use Rattle.std.proofs.lemmas.Bool.Decides.{nat_tests}
 use Rattle.std.proofs.lemmas.List.Elements.{All-nil, All-cons}
-use Rattle.machine.specs.Connections.{Connection, has_serial, is_live, changed, serials}
+use Rattle.machine.specs.Connections.{Connection, has_serial, with_serial, is_live, changed, serials}
 use Rattle.machine.specs.States.{State}
 use Rattle.machine.specs.Combining.{when}
 use Rattle.machine.specs.Happenings.{Happening, Joined, Got, Ended, Failed, Took, Moment, Closed, IsAllowed}
 use Rattle.machine.specs.Steps.{step}
+use Rattle.machine.proofs.Finding.{none_some, some_is}
 use Rattle.machine.proofs.Live.{lives_as}
 use Rattle.machine.proofs.Invariant.{On}
 use Rattle.machine.proofs.BelowLatest.{BelowLatest, connection_upto}
@@ -59,6 +60,38 @@ above-none low n (c ∷ cs) le r =
     at : (b : Bool) → b ≡ false → list_any (lives_as n) cs ≡ false → ((b && is_live c) || list_any (lives_as n) cs) ≡ false
     at true e rest = absurd (let x : ⊥ = cc in x)
     at false e rest = rest
+
+-- ---- the first that passes a test
+
+found_above : (low : ℕ) (test : Connection → Bool) (cs : List Connection) (d : Connection) → Rise low (serials cs) → find test cs ≡ Some d → low < d.serial
+found_above low test [] d r e = none_some d e
+found_above low test (c ∷ cs) d r e = at (test c) e (found_above c.serial test cs d r.1)
+  where
+    at : (b : Bool) → cond b (Some c) (find test cs) ≡ Some d → (find test cs ≡ Some d → c.serial < d.serial) → low < d.serial
+    at true k later = subst (λ (x : Connection). low < x.serial) (some_is c d k) r.0
+    at false k later = let above : low < c.serial = r.0 in let rest : c.serial < d.serial = later k in omega arith
+
+-- it is the one of its serial
+pub found-by-serial : (low : ℕ) (test : Connection → Bool) (cs : List Connection) (d : Connection) → Rise low (serials cs) → find test cs ≡ Some d → with_serial d.serial cs ≡ Some d
+found-by-serial low test [] d r e = none_some d e
+found-by-serial low test (c ∷ cs) d r e = at (test c) e (found-by-serial c.serial test cs d r.1)
+  where
+    here : (b : Bool) → b ≡ true → c ≡ d → cond b (Some c) (with_serial d.serial cs) ≡ Some d
+    here true k is = ap (λ (x : Connection). Some x) is
+    here false k is = absurd cc
+
+    after : (b : Bool) → b ≡ false → with_serial d.serial cs ≡ Some d → cond b (Some c) (with_serial d.serial cs) ≡ Some d
+    after true k rest = absurd cc
+    after false k rest = rest
+
+    at : (b : Bool) → cond b (Some c) (find test cs) ≡ Some d → (find test cs ≡ Some d → with_serial d.serial cs ≡ Some d) → with_serial d.serial (c ∷ cs) ≡ Some d
+    at true k later =
+        let is : c ≡ d = some_is c d k in
+        let same : c.serial ≡ d.serial = ap (λ (x : Connection). x.serial) is in
+        here (has_serial d.serial c) (grind (arith, nat_tests, same)) is
+    at false k later =
+        let above : c.serial < d.serial = found_above c.serial test cs d r.1 k in
+        after (has_serial d.serial c) (grind (arith, nat_tests, above)) (later k)
 
 -- ---- states
 

@@ -4,3 +4,4 @@ pub mod Growing
 pub mod OpenSerials
 pub mod FewOpen
 pub mod Promises
+pub mod Dropped

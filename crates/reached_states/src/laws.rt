@@ -1,5 +1,6 @@
 //! What holds of every state that the machine reaches.
 
+ghost use Rattle.reached_states.specs.Dropped.{LiveKeepBytes};
 ghost use Rattle.reached_states.specs.FewOpen.{FewAreOpen};
 ghost use Rattle.reached_states.specs.Growing.{LogGrows};
 ghost use Rattle.reached_states.specs.NewSerials.{NewIsUntold};
@@ -47,6 +48,11 @@ pub fn taken_is_queued()
 /// to be closed.
 pub fn few_are_open()
     ensures { FewAreOpen }
+{}
+
+/// A connection that lives has no bytes dropped.
+pub fn live_keep_bytes()
+    ensures { LiveKeepBytes }
 {}
 
 /// Of the joined screens only the active one holds keys and buttons, and just those that were left
