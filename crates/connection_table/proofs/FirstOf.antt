@@ -1,6 +1,6 @@
 -- A write at the first place that passes a test.
 use Rattle.std.specs.Prelude.{◌≡◌, refl, ℕ, ◌+◌, ◌<◌, ◌≤◌, nat_lt, suc, Bool, true, false, not, cond, List, [], ◌∷◌, length, MatchBool, Option, Some, None}
-use Rattle.std.specs.List.{position_or_len, position}
+use Rattle.std.specs.List.{find, position_or_len, position}
 use Rattle.std.proofs.Common.{arith, sym, ap, ◌∙◌, subst, get_or, set}
 use Rattle.std.proofs.lemmas.Bool.Decides.{nat_tests}
 use Rattle.machine.proofs.Finding.{none_some, some_is}
@@ -68,3 +68,20 @@ none_changes test R xs h = none_change test R xs (by (nat_lt (position_or_len te
     by : (b : Bool) → nat_lt (position_or_len test xs) (length xs) ≡ b → cond b (Some (position_or_len test xs)) None ≡ None → length xs ≤ place test xs
     by true e h = none_some (position_or_len test xs) (sym h)
     by false e h = let same = place-is test xs in let far : length xs ≤ position_or_len test xs = grind (arith, nat_tests, e) in omega arith
+
+find_place : {X : Type 0} (test : X → Bool) (xs : List X) (d : X) → place test xs < length xs → find test xs ≡ Some (get_or xs (place test xs) d)
+unfolding place
+find_place test [] d h = absurd (let x : ⊥ = omega arith in x)
+find_place test (x ∷ xs) d h = by (test x) h (find_place test xs d)
+  where
+    by : (b : Bool) → cond b 0 (suc (place test xs)) < length (x ∷ xs) → (place test xs < length xs → find test xs ≡ Some (get_or xs (place test xs) d)) → cond b (Some x) (find test xs) ≡ Some (get_or (x ∷ xs) (cond b 0 (suc (place test xs))) d)
+    by true h later = refl
+    by false h later = later (omega arith)
+
+-- what stands there is what is found
+pub found_at : {X : Type 0} (test : X → Bool) (xs items : List X) (i : ℕ) (x : X) → xs ≡ items → position test xs ≡ Some i → i < length xs → x ≡ get_or items i x → find test xs ≡ Some x
+found_at test xs items i x same f h e =
+    let at : i ≡ place test xs = found_place test xs i f in
+    let there : x ≡ get_or xs i x = e ∙ ap (λ ys. get_or ys i x) (sym same) in
+    let found : find test xs ≡ Some (get_or xs (place test xs) x) = find_place test xs x (subst (λ j. j < length xs) at h) in
+    found ∙ ap Some (sym (subst (λ j. x ≡ get_or xs j x) at there))

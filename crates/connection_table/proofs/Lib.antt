@@ -4,3 +4,5 @@ pub mod PartsTaken
 pub mod Standing
 pub mod Places
 pub mod Advancing
+pub mod Readings
+pub mod Removing

@@ -13,7 +13,9 @@ use Rattle.send_queue.specs.QueueParts.{QueueParts}
 use Rattle.send_queue.specs.Standing as queues
 use Rattle.send_queue.specs.Calls as queue_calls
 use Rattle.connection_table.specs.declared.connection.Connection.{Connection}
+use Rattle.connection_table.specs.declared.reading.Reading.{Reading}
 use Rattle.connection_table.specs.PhaseOf.{phase_of, parted_phase}
+use Rattle.connection_table.specs.Readings.{Brings}
 
 -- it was just accepted
 pub record Begins (c : Connection) (serial now limit : ℕ) : Type 0 where
@@ -27,6 +29,11 @@ pub record Begins (c : Connection) (serial now limit : ℕ) : Type 0 where
   pub queue : queues.Begins c.queue
   pub taken : c.queue.taken ≡ 0
   pub holds : c.queue.is_discarded ≡ false
+
+-- a piece of its bytes was read
+pub record Reads (piece : List ℕ) (reading : Reading) (old new : Connection) : Type 0 where
+  pub brings : Brings piece reading old.reader new.reader
+  pub rest : new ≡ record old { reader = new.reader }
 
 -- a message was queued, or left out
 pub record Sends (m : Msg) (old new : Connection) : Type 0 where

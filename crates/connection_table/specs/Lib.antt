@@ -1,4 +1,5 @@
 pub mod PhaseOf
+pub mod Readings
 pub mod Calls
 pub mod PartsTaken
 pub mod FirstOf

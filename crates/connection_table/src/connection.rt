@@ -10,10 +10,11 @@ ghost use Rattle.hello_states.specs.Advancing.{admitted_as, joined_with, reshape
 ghost use Rattle.clip_chunks.specs.Assemblies.{whole_in};
 ghost use Rattle.connection_table.specs.PhaseOf.{phase_of};
 ghost use Rattle.connection_table.specs.Tables.{is_joined_as, is_too_slow};
-ghost use Rattle.connection_table.specs.Calls.{Begins, Sends, Parts, Drops, Takes, Advances};
+ghost use Rattle.connection_table.specs.Calls.{Begins, Reads, Sends, Parts, Drops, Takes, Advances};
 ghost use Rattle.connection_table.specs.PartsTaken.{TakesPart};
 
 use crate::phase::Phase;
+use crate::reading::{Reading, read_piece};
 use clip_chunks::{Assembly, Took};
 use hello_states::{Greeting, PartCause, Parting};
 use message_codec::{ClipMark, Msg};
@@ -94,6 +95,14 @@ impl Connection {
         ensures { result ≡ is_too_slow self.now }
     {
         self.phase.is_live() && self.queue.is_slow()
+    }
+
+    // Reads the next piece of the connection's bytes, which are fewer than 2^63 in all.
+    pub(crate) fn read(&mut self, alloc: Global, piece: &[u8]) -> Result<Reading, OutOfMemory>
+        requires { self.old.reader.total + length piece.now < 2 ^ 63 }
+        ensures { IfOk result (λ reading. Reads piece.now reading self.old self.new) }
+    {
+        read_piece(alloc, &mut self.reader, piece)
     }
 
     // Queues a message. On `OutOfMemory` nothing changes.

@@ -8,10 +8,12 @@
 mod connection;
 mod deadlines;
 mod phase;
+mod reading;
 mod table;
 #[cfg(test)]
 mod tests;
 
 pub use connection::Connection;
 pub use phase::Phase;
+pub use reading::Reading;
 pub use table::Table;

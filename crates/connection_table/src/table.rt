@@ -9,11 +9,12 @@ ghost use Rattle.message_codec.specs.Spelling.{body_of};
 ghost use Rattle.hello_states.specs.Phases.{after_beat_in, after_hearing_in};
 ghost use Rattle.hello_states.specs.Advancing.{admitted_as, joined_with, reshaped_to};
 ghost use Rattle.wire_frames.specs.declared.limits.TheConstants.{BODY_LIMIT};
-ghost use Rattle.connection_table.specs.Calls.{Sends, Parts, Drops, Takes, Advances};
+ghost use Rattle.connection_table.specs.Calls.{Reads, Sends, Parts, Drops, Takes, Advances};
 ghost use Rattle.connection_table.specs.PartsTaken.{TakesPart};
-ghost use Rattle.connection_table.specs.Tables.{is_of, is_joined_as, is_too_slow, ChangesAt};
+ghost use Rattle.connection_table.specs.Tables.{is_of, without, is_joined_as, is_too_slow, ChangesAt};
 
 use crate::connection::Connection;
+use crate::reading::Reading;
 use hello_states::PartCause;
 use message_codec::{ClipMark, Msg};
 use share_base::{ClipId, Octets, OutOfMemory, ScreenNo, Shape};
@@ -98,6 +99,34 @@ impl Table {
     {
         self.connections.push(connection)?;
         Ok(())
+    }
+
+    /// Removes the connection of that serial.
+    pub fn remove(&mut self, serial: u64)
+        ensures { self.new ≡ without serial self.old }
+    {
+        self.connections.retain(|c| c.serial != serial);
+    }
+
+    /// Reads the next piece of the bytes of the connection of that serial, which are fewer than 2^63 in
+    /// all, and returns what it brings. Of another serial nothing is read. After `OutOfMemory` some of
+    /// the piece may be read.
+    pub fn read(
+        &mut self,
+        alloc: Global,
+        serial: u64,
+        piece: &[u8],
+    ) -> Result<Reading, OutOfMemory>
+        requires { IfSome (find (is_of serial) self.old)
+            (λ c. c.reader.total + length piece.now < 2 ^ 63) }
+        ensures { IfOk result
+            (λ reading. ChangesAt serial (Reads piece.now reading) self.old self.new) }
+    {
+        let Some(place) = self.place_of(serial) else {
+            return Ok(Reading::nothing(alloc));
+        };
+        let reading = self.connections[place].read(alloc, piece)?;
+        Ok(reading)
     }
 
     /// Queues a message for the connection of that serial. On `OutOfMemory` nothing changes.
@@ -203,6 +232,18 @@ impl Table {
     {
         if let Some(place) = self.place_of(serial) {
             self.connections[place].drop_bytes();
+        }
+    }
+
+    /// Notes that the connection of that serial took the first `count` of its untaken bytes. Fewer than
+    /// 2^63 are taken in all.
+    pub fn take(&mut self, serial: u64, count: usize)
+        requires there { IfSome (find (is_of serial) self.old) (λ c. count ≤ length c.queue.untaken) }
+        requires fits { IfSome (find (is_of serial) self.old) (λ c. c.queue.taken + count < 2 ^ 63) }
+        ensures { ChangesAt serial (Takes count) self.old self.new }
+    {
+        if let Some(place) = self.place_of(serial) {
+            self.connections[place].take(count);
         }
     }
 }
