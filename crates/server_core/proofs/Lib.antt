@@ -16,4 +16,4 @@ pub mod SlowFound
 pub mod Loops
 pub mod SlowTurns
 pub mod Passed
-pub mod Joined
+pub mod JoinedScreens

@@ -1,6 +1,6 @@
 use Rattle.std.proofs.Common.{arith}
 use Rattle.connection_table.specs.Tables.{is_joined_as}
-use Rattle.server_core.proofs.Joined.{one-more, none-more}
+use Rattle.server_core.proofs.JoinedScreens.{one-more, none-more}
 use Rattle.server_core.proofs.joined.add_all.Goals as goal
 
 pub loop-connection-preserved : goal.loop-connection-preserved

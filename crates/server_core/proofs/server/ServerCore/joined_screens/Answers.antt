@@ -3,7 +3,7 @@ use Rattle.std.specs.List.{list_any}
 use Rattle.std.proofs.Common.{ap, ◌∙◌}
 use Rattle.connection_table.specs.declared.connection.Connection.{Connection}
 use Rattle.connection_table.specs.Tables.{is_joined_as}
-use Rattle.server_core.proofs.Joined.{set-joined}
+use Rattle.server_core.proofs.JoinedScreens.{set-joined}
 use Rattle.server_core.proofs.server.ServerCore.joined_screens.Goals as goal
 
 pub returns : goal.returns
