@@ -1,3 +1,5 @@
+ghost use Rattle.screen_crossing.specs.Showing.{IsPlaced};
+
 use super::*;
 use edge_cross::Waiting;
 use option_table::OptionName;
@@ -96,8 +98,11 @@ const ROWS: [Row; 9] = [
     Row(1920, 540, false, 0, false, 6, None),
 ];
 
-fn landing(config: &Config, row: Row) -> Option<u32> {
-    let at = Surroundings {
+/// The cursor is at the middle of the right side of desk.
+fn around(row: Row) -> Surroundings
+    ensures { IsPlaced result }
+{
+    Surroundings {
         screen: DESK,
         shape: DESK_SHAPE,
         cursor: Point { x: 1919, y: 540 },
@@ -106,9 +111,19 @@ fn landing(config: &Config, row: Row) -> Option<u32> {
         sequence: row.3,
         has_mouse_down: row.4,
         mods: Mask(row.5),
-    };
-    match at.first_way(config, Point { x: row.0, y: row.1 }) {
+    }
+}
+
+fn place_of_way(config: &Config, row: Row) -> Option<u32> {
+    match around(row).first_way(config, Point { x: row.0, y: row.1 }) {
         Some(way) => Some(way.landing.t),
+        None => None,
+    }
+}
+
+fn place_beside(config: &Config, row: Row, side: Side) -> Option<u32> {
+    match around(row).landing_at_cursor(config, side) {
+        Some(landing) => Some(landing.t),
         None => None,
     }
 }
@@ -117,7 +132,9 @@ fn landing(config: &Config, row: Row) -> Option<u32> {
 fn motions_leave_on_open_edges(rt: HostRuntime) -> Result<(), Fail> {
     let config = desk_and_pad(rt.alloc())?;
     for row in ROWS {
-        assert_eq!(rt; landing(&config, row), row.6);
+        assert_eq!(rt; place_of_way(&config, row), row.6);
+        assert_eq!(rt; place_beside(&config, row, Side::Right), Some(500_462));
+        assert_eq!(rt; place_beside(&config, row, Side::Up), None);
     }
     Ok(())
 }

@@ -14,7 +14,7 @@ corners g = record { set = g.switch_corners; size = g.switch_corner_size }
 
 pub returns : goal.returns
 returns c =
-    let past : length c.args.config.now.screens ≤ c.args.self.now.screen.0 = omega (arith, c.count.ensures.count, c.if-screen-0.false) in
+    let past : length c.args.config.now.screens ≤ c.args.self.now.screen.0 = omega (arith, c.count.ensures.count, c.if-self-count.false) in
     ap corners c.globals-globals.ensures.values
     ∙ ap (λ (own : Option Screen). record { set = unwrap_or (setting (own_in own) option.SwitchCorners) (standing c.args.config.now.settings option.SwitchCorners); size = unwrap_or (setting (own_in own) option.SwitchCornerSize) (standing c.args.config.now.settings option.SwitchCornerSize) })
     (sym (slice_get_past c.args.config.now.screens c.args.self.now.screen.0 past))
