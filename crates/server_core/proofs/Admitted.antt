@@ -17,7 +17,7 @@ use Rattle.server_core.specs.declared.server.ServerCore.{ServerCore}
 use Rattle.server_core.specs.Leading.{Reads}
 use Rattle.server_core.specs.Using.{is_using}
 use Rattle.server_core.specs.Standing.{Beside, around, Stands}
-use Rattle.server_core.proofs.Joined.{pairs-any}
+use Rattle.server_core.proofs.JoinedScreens.{pairs-any}
 
 same_answer : (major minor : ℕ) (o : Option ℕ) (f g : ℕ → Bool) → ((k : ℕ) → f k ≡ g k) → hello_answer major minor o f ≡ hello_answer major minor o g
 same_answer major minor o f g e = ap (λ (a : HelloAnswer). if is_admitted major minor then a else Refused cause.Version) (by o)

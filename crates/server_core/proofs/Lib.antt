@@ -19,6 +19,7 @@ pub mod Timed
 pub mod DueOnes
 pub mod Come
 pub mod Steady
+pub mod JoinedScreens
 pub mod Indexed
 pub mod ScriptLines
 pub mod ScriptTurns
@@ -34,7 +35,7 @@ pub mod Driven
 pub mod Known
 pub mod Added
 pub mod Admitted
-pub mod Grabs
+pub mod Grabbing
 pub mod TellOthers
 pub mod Options
 pub mod Dispatch

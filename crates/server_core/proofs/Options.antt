@@ -4,7 +4,9 @@ use Rattle.std.specs.List.{flat_map}
 use Rattle.std.specs.Option.{option_map}
 use Rattle.std.specs.Int.{w32, to_be_bytes}
 use Rattle.std.proofs.Common.{arith, sym, ap, ◌∙◌, subst, length-append}
+use Rattle.message_codec.specs.Fields.{Words, spelled, spelled_all}
 use Rattle.message_codec.specs.Spelling.{body_of}
+use Rattle.message_codec.specs.Table.{text, code_of, fields}
 use Rattle.message_codec.specs.declared.messages.Msg.TheVariants as msg
 use Rattle.wire_frames.specs.declared.limits.TheConstants.{BODY_LIMIT}
 use Rattle.option_table.specs.declared.rows.OptionName.{OptionName}
@@ -45,7 +47,19 @@ four_each [] = refl
 four_each (n ∷ ns) = let rest = four_each ns in omega (arith, length-append (to_be_bytes w32 n) (flat_map (to_be_bytes w32) ns), four n)
 
 pub options-fit : (c : Configuration) (n : ℕ) (words : List ℕ) → words ≡ wire_options_of c n → length (body_of (msg.SetOptions words)) ≤ BODY_LIMIT
-options-fit c n words e = ?
+options-fit c n words e =
+    let short : length words ≤ 100 = subst (λ (ws : List ℕ). length ws ≤ 100) (sym e) (words_short (own_of c n) c.settings) in
+    let code : length (text (code_of (msg.SetOptions words))) ≡ 4 = refl in
+    let whole : length (body_of (msg.SetOptions words)) ≡ length (text (code_of (msg.SetOptions words))) + length (spelled_all (fields (msg.SetOptions words))) = length-append (text (code_of (msg.SetOptions words))) (spelled_all (fields (msg.SetOptions words))) in
+    let listed : length (spelled_all (fields (msg.SetOptions words))) ≡ length (spelled (Words words)) + 0 = length-append (spelled (Words words)) [] in
+    let counted : length (spelled (Words words)) ≡ length (to_be_bytes w32 (length words)) + length (flat_map (to_be_bytes w32) words) = length-append (to_be_bytes w32 (length words)) (flat_map (to_be_bytes w32) words) in
+    let head : length (to_be_bytes w32 (length words)) ≡ 4 = four (length words) in
+    let rest : length (flat_map (to_be_bytes w32) words) ≡ 4 * length words = four_each words in
+    let all : length (body_of (msg.SetOptions words)) ≤ 408 = omega arith in
+    within all
+  where
+    within : {n : ℕ} → n ≤ 408 → n ≤ BODY_LIMIT
+    within h = omega arith
 
 -- ---- its name
 

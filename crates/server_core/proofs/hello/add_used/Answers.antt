@@ -1,6 +1,6 @@
 use Rattle.std.proofs.Common.{arith}
 use Rattle.server_core.specs.Using.{is_using}
-use Rattle.server_core.proofs.Joined.{one-more, none-more}
+use Rattle.server_core.proofs.JoinedScreens.{one-more, none-more}
 use Rattle.server_core.proofs.hello.add_used.Goals as goal
 
 pub loop-connection-preserved : goal.loop-connection-preserved

@@ -1,4 +1,4 @@
-use Rattle.server_core.proofs.Grabs.{grab-unshared, grab-passed, grab-counted}
+use Rattle.server_core.proofs.Grabbing.{grab-unshared, grab-passed, grab-counted}
 use Rattle.server_core.proofs.server.ServerCore.grab.Goals as goal
 
 pub returns-then-not-is_sharing : goal.returns-then-not-is_sharing

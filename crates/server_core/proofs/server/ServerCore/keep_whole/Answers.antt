@@ -1,4 +1,4 @@
-use Rattle.server_core.proofs.Grabs.{whole-kept, whole-answer, same-book}
+use Rattle.server_core.proofs.Grabbing.{whole-kept, whole-answer, same-book}
 use Rattle.server_core.proofs.server.ServerCore.keep_whole.Goals as goal
 
 pub returns-clause-counts : goal.returns-clause-counts

@@ -1,4 +1,4 @@
-use Rattle.server_core.proofs.Grabs.{clip-taken, grab-answer, same-book}
+use Rattle.server_core.proofs.Grabbing.{clip-taken, grab-answer, same-book}
 use Rattle.server_core.proofs.server.ServerCore.take_clip.Goals as goal
 
 pub returns-clause-counts : goal.returns-clause-counts

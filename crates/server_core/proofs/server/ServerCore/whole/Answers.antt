@@ -1,4 +1,4 @@
-use Rattle.server_core.proofs.Grabs.{whole-unshared, whole-passed, whole-counted}
+use Rattle.server_core.proofs.Grabbing.{whole-unshared, whole-passed, whole-counted}
 use Rattle.server_core.proofs.server.ServerCore.whole.Goals as goal
 
 pub returns-then-not-is_sharing : goal.returns-then-not-is_sharing
