@@ -1,4 +1,4 @@
-use Rattle.std.specs.Prelude.{◌≡◌, ◌<◌, ℕ, Bool, true, false, nat_le, Option, Some, None}
+use Rattle.std.specs.Prelude.{◌≡◌, ◌<◌, ◌≤◌, ℕ, Bool, true, false, nat_le, Option, Some, None}
 use Rattle.std.proofs.Common.{sym, ap, ◌∙◌, subst, arith}
 use Rattle.edge_cross.specs.declared.gate.Waiting.{Waiting}
 use Rattle.machine.specs.Combining.{when, for_some, unchanged}
@@ -20,7 +20,7 @@ returns-then-wait-moment c = λ b s h.
 
 pub returns : goal.returns
 returns c = λ b s h.
-    let since : s.at < c.in-Some.wait.due → ⊥ = subst (λ n. n < c.in-Some.wait.due → ⊥) (c.moment.ensures.moment ∙ h.at) c.if-wait-moment.false in
+    let since : c.in-Some.wait.due ≤ s.at = subst (λ n. c.in-Some.wait.due ≤ n) (c.moment.ensures.moment ∙ h.at) c.if-wait-moment.false in
     let over : nat_le c.in-Some.wait.due s.at ≡ true = grind (arith, since) in
     subst (λ (o : Option Waiting). Stands b c.part_slow.new.self (for_some o (λ w. when (nat_le w.due s.at) (λ t. part_slow (try w t))) unchanged s)) (sym c.in-Some.is ∙ c.waiting.ensures s h.gate)
     (subst (λ x. Stands b c.part_slow.new.self (when x (λ t. part_slow (try c.in-Some.wait t)) s)) (sym over) (c.in_ok-part_slow.ensures b (try c.in-Some.wait s) (c.in_ok-try_edge.ensures b s h)))
