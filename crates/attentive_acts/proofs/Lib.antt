@@ -1,3 +1,13 @@
 pub mod SingleActs
 pub mod GrowingQueues
 pub mod TakenPrefixes
+pub mod NextPlaces
+pub mod ReachedActs
+pub mod ActByAct
+pub mod Closings
+pub mod Quit
+pub mod QuietFailures
+pub mod Gone
+pub mod WriteFlags
+pub mod QuietSteps
+pub mod TakenAtWaits

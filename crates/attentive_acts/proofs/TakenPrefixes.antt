@@ -43,17 +43,17 @@ use Rattle.attentive_acts.specs.Judging.{Judge, AllowsAt, Follows, IsPiece, judg
 use Rattle.attentive_acts.specs.Laws.{taken_in, taken_bytes, AreAttentive, judge_of}
 use Rattle.attentive_acts.proofs.GrowingQueues.{front-grows, front-more}
 
-record Holds (latest : ℕ) (s : State) (acts : List Act) : Type 0 where
-  known : On (BelowLatest latest) s
-  later : (c : ℕ) → latest < c → taken_bytes c acts ≡ []
-  front : (c : ℕ) → IsFront (taken_bytes c acts) (queue s.routed c)
-  counted : (c : ℕ) → HasTaken c (length (taken_bytes c acts)) s.connections
+pub record Holds (latest : ℕ) (s : State) (acts : List Act) : Type 0 where
+  pub known : On (BelowLatest latest) s
+  pub later : (c : ℕ) → latest < c → taken_bytes c acts ≡ []
+  pub front : (c : ℕ) → IsFront (taken_bytes c acts) (queue s.routed c)
+  pub counted : (c : ℕ) → HasTaken c (length (taken_bytes c acts)) s.connections
 
-taken_more : (c : ℕ) (acts : List Act) (a : Act) → taken_bytes c (acts ++ a ∷ []) ≡ taken_bytes c acts ++ taken_in c a
-taken_more c acts a = flat_map-append (taken_in c) acts (a ∷ []) ∙ ap (λ (xs : List ℕ). taken_bytes c acts ++ xs) (append-nil (taken_in c a))
+pub taken-more : (c : ℕ) (acts : List Act) (a : Act) → taken_bytes c (acts ++ a ∷ []) ≡ taken_bytes c acts ++ taken_in c a
+taken-more c acts a = flat_map-append (taken_in c) acts (a ∷ []) ∙ ap (λ (xs : List ℕ). taken_bytes c acts ++ xs) (append-nil (taken_in c a))
 
 taken_none : (c : ℕ) (acts : List Act) (a : Act) → taken_in c a ≡ [] → taken_bytes c (acts ++ a ∷ []) ≡ taken_bytes c acts
-taken_none c acts a none = taken_more c acts a ∙ ap (λ (xs : List ℕ). taken_bytes c acts ++ xs) none ∙ append-nil (taken_bytes c acts)
+taken_none c acts a none = taken-more c acts a ∙ ap (λ (xs : List ℕ). taken_bytes c acts ++ xs) none ∙ append-nil (taken_bytes c acts)
 
 -- entries were only added
 front_after : (c : ℕ) (s next : State) (bytes : List ℕ) → On (Grows s.routed) next → IsFront bytes (queue s.routed c) → IsFront bytes (queue next.routed c)
@@ -164,8 +164,8 @@ holds_took : (latest serial n : ℕ) (bytes : List ℕ) (s : State) (acts : List
     → Holds latest (step s (Took serial n)) (acts ++ act.Write serial bytes (written.Took n) ∷ [])
 holds_took latest serial n bytes s acts more piece le h = record {
   known = below.took latest serial (takes n) (takes-tame n) s h.known;
-  later = λ c above. taken_more c acts (act.Write serial bytes (written.Took n)) ∙ nothing c (serial == c) refl above;
-  front = λ c. subst (λ (xs : List ℕ). IsFront xs (queue s.routed c)) (sym (taken_more c acts (act.Write serial bytes (written.Took n)))) (longer c (serial == c) refl);
+  later = λ c above. taken-more c acts (act.Write serial bytes (written.Took n)) ∙ nothing c (serial == c) refl above;
+  front = λ c. subst (λ (xs : List ℕ). IsFront xs (queue s.routed c)) (sym (taken-more c acts (act.Write serial bytes (written.Took n)))) (longer c (serial == c) refl);
   counted = λ c. subst (λ (m : ℕ). HasTaken c m (step s (Took serial n)).connections) (sym (size c)) (took-stays c (length (taken_bytes c acts)) serial n s.connections (h.counted c));
 }
   where
@@ -191,7 +191,7 @@ holds_took latest serial n bytes s acts more piece le h = record {
 
     size : (c : ℕ) → length (taken_bytes c (acts ++ act.Write serial bytes (written.Took n) ∷ [])) ≡ length (taken_bytes c acts) + cond (serial == c) n 0
     size c =
-        ap length (taken_more c acts (act.Write serial bytes (written.Took n))) ∙ length-append (taken_bytes c acts) (cond (serial == c) (take n bytes) [])
+        ap length (taken-more c acts (act.Write serial bytes (written.Took n))) ∙ length-append (taken_bytes c acts) (cond (serial == c) (take n bytes) [])
         ∙ ap (λ (m : ℕ). length (taken_bytes c acts) + m) (taken_here serial n bytes c (serial == c) refl le)
 
 -- ---- each act
@@ -265,8 +265,10 @@ follows_hold j before (a ∷ acts) w h =
     subst (λ (xs : List Act). Holds (judged (judge_after j a) acts).latest (judged (judge_after j a) acts).state xs) (append_assoc before (a ∷ []) acts)
     (follows_hold (judge_after j a) (before ++ a ∷ []) acts w.1 (act_holds j before a w.0 h))
 
-pub taken-in-order : (config : Configuration) (script : Script) (now : ℕ) (acts : List Act) → AreAttentive config script now acts → (c : ℕ) → IsFront (taken_bytes c acts) (queue (judge_of config script now acts).state.routed c)
-taken-in-order config script now acts w c =
+pub holds-after : (config : Configuration) (script : Script) (now : ℕ) (acts : List Act) → AreAttentive config script now acts → Holds (judge_of config script now acts).latest (judge_of config script now acts).state acts
+holds-after config script now acts w =
     let s : State = start config script now in
-    let first : Holds 0 s [] = record { known = start-below config script now; later = λ n above. refl; front = λ n. refl; counted = λ n k e. none_some k e } in
-    (follows_hold (first_judge s) [] acts w first).front c
+    follows_hold (first_judge s) [] acts w (record { known = start-below config script now; later = λ n above. refl; front = λ n. refl; counted = λ n k e. none_some k e })
+
+pub taken-in-order : (config : Configuration) (script : Script) (now : ℕ) (acts : List Act) → AreAttentive config script now acts → (c : ℕ) → IsFront (taken_bytes c acts) (queue (judge_of config script now acts).state.routed c)
+taken-in-order config script now acts w c = (holds-after config script now acts w).front c

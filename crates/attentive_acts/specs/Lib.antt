@@ -4,3 +4,5 @@ pub mod Borders
 pub mod Places
 pub mod Judging
 pub mod Laws
+pub mod Offered
+pub mod ReachedActs

@@ -25,8 +25,8 @@ use Rattle.reached_states.specs.OpenSerials.{TakenIsQueued}
 use Rattle.reached_states.proofs.ReachedAll.{reached-all-below}
 use Rattle.reached_states.proofs.GrowingLog.{told-step}
 
-has_taken : (s : State) (n : ℕ) → HasTaken n (taken_by s n) s.connections
-has_taken s n c e = sym (ap (λ (o : Option Connection). unwrap_or (option_map (λ (c : Connection). c.taken) o) 0) e)
+pub has-taken : (s : State) (n : ℕ) → HasTaken n (taken_by s n) s.connections
+has-taken s n c e = sym (ap (λ (o : Option Connection). unwrap_or (option_map (λ (c : Connection). c.taken) o) 0) e)
 
 taken_upto : (s : State) (n count : ℕ) → HasTaken n count s.connections → taken_by s n ≤ count
 taken_upto s n count h = at (connection s n) refl
@@ -78,16 +78,16 @@ more_taken s serial count n a q = at (serial == n) refl
     at false e = omega arith
 
 queued_step : (latest : ℕ) (s : State) (h : Happening) → IsAllowed latest s h → On (BelowLatest latest) s → ((n : ℕ) → IsQueued s n) → (n : ℕ) → IsQueued (step s h) n
-queued_step latest s (Joined serial) a below q n = kept s (Joined serial) n (accept-keeps (taken.invariant n (taken_by s n)) serial s (appended-stays n (taken_by s n) (fresh serial s.at) s.connections (new_taken latest serial s n a below) (has_taken s n))) (q n)
-queued_step latest s (Got serial piece) a below q n = kept s (Got serial piece) n (got-keeps (taken.invariant n (taken_by s n)) serial piece s (has_taken s n)) (q n)
-queued_step latest s (Ended serial) a below q n = kept s (Ended serial) n (breaks-keeps (taken.invariant n (taken_by s n)) cause.Ended serial s (has_taken s n)) (q n)
-queued_step latest s (Failed serial) a below q n = kept s (Failed serial) n (breaks-keeps (taken.invariant n (taken_by s n)) cause.Failed serial s (has_taken s n)) (q n)
+queued_step latest s (Joined serial) a below q n = kept s (Joined serial) n (accept-keeps (taken.invariant n (taken_by s n)) serial s (appended-stays n (taken_by s n) (fresh serial s.at) s.connections (new_taken latest serial s n a below) (has-taken s n))) (q n)
+queued_step latest s (Got serial piece) a below q n = kept s (Got serial piece) n (got-keeps (taken.invariant n (taken_by s n)) serial piece s (has-taken s n)) (q n)
+queued_step latest s (Ended serial) a below q n = kept s (Ended serial) n (breaks-keeps (taken.invariant n (taken_by s n)) cause.Ended serial s (has-taken s n)) (q n)
+queued_step latest s (Failed serial) a below q n = kept s (Failed serial) n (breaks-keeps (taken.invariant n (taken_by s n)) cause.Failed serial s (has-taken s n)) (q n)
 queued_step latest s (Took serial count) a below q n =
-    let few = taken_upto (step s (Took serial count)) n (taken_by s n + cond (serial == n) count 0) (took-stays n (taken_by s n) serial count s.connections (has_taken s n)) in
+    let few = taken_upto (step s (Took serial count)) n (taken_by s n + cond (serial == n) count 0) (took-stays n (taken_by s n) serial count s.connections (has-taken s n)) in
     let more = more_taken s serial count n a.1 (q n) in
     omega arith
-queued_step latest s (Moment t) a below q n = kept s (Moment t) n (moment-keeps (taken.invariant n (taken_by s n)) (λ m. refl) (λ m. refl) t s (has_taken s n)) (q n)
-queued_step latest s (Closed serial) a below q n = kept s (Closed serial) n (removed-stays n (taken_by s n) serial s.connections (has_taken s n)) (q n)
+queued_step latest s (Moment t) a below q n = kept s (Moment t) n (moment-keeps (taken.invariant n (taken_by s n)) (λ m. refl) (λ m. refl) t s (has-taken s n)) (q n)
+queued_step latest s (Closed serial) a below q n = kept s (Closed serial) n (removed-stays n (taken_by s n) serial s.connections (has-taken s n)) (q n)
 
 pub taken-is-queued : TakenIsQueued
 taken-is-queued o latest s serial r = reached-all-below (λ l t. (n : ℕ) → IsQueued t n) queued_step o latest s (λ n. omega arith) r serial
