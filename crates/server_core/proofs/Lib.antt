@@ -39,3 +39,5 @@ pub mod Grabbing
 pub mod TellOthers
 pub mod Options
 pub mod Dispatch
+pub mod Passed
+pub mod JoinedScreens
