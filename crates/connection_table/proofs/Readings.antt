@@ -67,6 +67,7 @@ stands-heard a received given k c same h = record {
   taken = h.taken;
   dropped = h.dropped;
   holds = h.holds;
+  known = h.known;
 }
 
 here_live : (c : Connection) (cs : List Connection) → is_live c ≡ true → list_any (lives_as c.serial) (c ∷ cs) ≡ true
@@ -113,6 +114,7 @@ stands-read a n piece reading k l c is h r = subst (λ x. StandsFor (brought n p
   taken = h.taken;
   dropped = h.dropped;
   holds = h.holds;
+  known = h.known;
 })
 
 pub are-read : (a : Surroundings) (n : ℕ) (piece : List ℕ) (reading : Reading) (ks ls : List kept.Connection) (cs : List Connection) → AreFor a ks cs → ChangesAt n (Reads piece reading) ks ls → AreFor (brought n piece reading a) ls (changed n (receives piece) cs)

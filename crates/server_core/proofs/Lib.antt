@@ -19,6 +19,12 @@ pub mod Timed
 pub mod DueOnes
 pub mod Come
 pub mod Steady
+pub mod Besides
+pub mod Gone
+pub mod Received
+pub mod Taken
+pub mod Closed
+pub mod Judged
 pub mod JoinedScreens
 pub mod Indexed
 pub mod ScriptLines

@@ -4,6 +4,8 @@ pub mod Scripts
 pub mod Standing
 pub mod Serving
 pub mod Leading
+pub mod Receiving
+pub mod Taking
 pub mod Shapes
 pub mod Sending
 pub mod HandingOut

@@ -2,7 +2,7 @@
 
 ghost use Rattle.std.specs.Prelude.{[], ◌∷◌, OnOk};
 ghost use Rattle.held_inputs.specs.declared.line.Line.TheVariants as line;
-ghost use Rattle.machine.specs.States.{Open, Part, Local, Closed};
+ghost use Rattle.machine.specs.States.{Open, Part, Local};
 ghost use Rattle.machine.specs.Routing.{logs};
 ghost use Rattle.server_core.specs.Leading.{Leads};
 
@@ -26,15 +26,6 @@ impl ServerCore {
         ensures { OnOk result (Leads self.old self.new (logs (Part serial cause ∷ []))) }
     {
         self.log.parted(serial, cause)?;
-        Ok(())
-    }
-
-    /// Logs that a connection was closed, with how many bytes it took and how many were queued. On `OutOfMemory` the log is
-    /// unchanged.
-    pub fn log_closed(&mut self, serial: u64, taken: u64, queued: u64) -> Result<(), OutOfMemory>
-        ensures { OnOk result (Leads self.old self.new (logs (Closed serial taken queued ∷ []))) }
-    {
-        self.log.closed(serial, taken, queued)?;
         Ok(())
     }
 
