@@ -57,7 +57,6 @@ stands-heard : (a : Surroundings) (received : ℕ → List ℕ) (given : ℕ →
 stands-heard a received given k c same h = record {
   serial = h.serial;
   phase = h.phase;
-  known = h.known;
   role = h.role;
   heard = λ on. h.heard on ∙ sym (same on).0;
   reader = λ on. subst (Represents k.reader c.received) (sym (same on).1) (h.reader on);
@@ -104,7 +103,6 @@ stands-read : (a : Surroundings) (n : ℕ) (piece : List ℕ) (reading : Reading
 stands-read a n piece reading k l c is h r = subst (λ x. StandsFor (brought n piece reading a) x (receives piece c)) (sym r.rest) (record {
   serial = h.serial;
   phase = h.phase;
-  known = h.known;
   role = r.brings.role ∙ h.role;
   heard = λ on. ap (λ bytes. bytes ++ piece) (h.heard on) ∙ sym (appended-at n c.serial piece a.received is);
   reader = λ on. subst (Represents l.reader (c.received ++ piece)) (sym (appended-at n c.serial reading.messages.items a.given is)) (r.brings.represents c.received (a.given c.serial) (h.reader on));

@@ -35,7 +35,6 @@ pub mod Copies
 pub mod NextLine
 pub mod Sleeping
 pub mod Passed
-pub mod JoinedScreens
 pub mod Promised
 pub mod Driven
 pub mod Known
@@ -45,5 +44,5 @@ pub mod Grabbing
 pub mod TellOthers
 pub mod Options
 pub mod Dispatch
-pub mod Passed
-pub mod JoinedScreens
+pub mod Happened
+pub mod Offering

@@ -24,5 +24,3 @@ pub mod Using
 pub mod Accepting
 pub mod Joining
 pub mod Hearing
-pub mod Around
-pub mod Passing

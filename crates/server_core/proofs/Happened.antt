@@ -1,0 +1,57 @@
+-- What each happening leads to, in the states that a server serves.
+use Rattle.std.specs.Prelude.{◌≡◌, refl, ℕ, ◌<◌, ◌==◌, suc, Bool, true, false, cond, List, [], ◌∷◌, length, All, Some}
+use Rattle.std.specs.List.{find}
+use Rattle.std.specs.Option.{option_map_or}
+use Rattle.std.proofs.Common.{arith}
+use Rattle.machine.specs.Connections.{Connection, has_serial, is_live}
+use Rattle.machine.specs.States.{State}
+use Rattle.machine.specs.Screens.{lives}
+use Rattle.machine.specs.Happenings as machine
+use Rattle.machine.specs.Steps.{step}
+use Rattle.machine.specs.Acceptance.{accept}
+use Rattle.reached_states.specs.NewSerials.{IsNewSerial}
+use Rattle.reached_states.proofs.NewSerials.{new-is-untold}
+use Rattle.engine_loop.specs.Engines.{Steps}
+use Rattle.server_core.specs.declared.server.ServerCore.{ServerCore}
+use Rattle.server_core.specs.Accepting.{AllBelow, IsNew}
+use Rattle.server_core.specs.Driving.{serves}
+use Rattle.server_core.specs.Leading.{Leads}
+use Rattle.server_core.specs.Serving.{Serves}
+use Rattle.server_core.specs.Targets.{IsThere}
+use Rattle.server_core.specs.Standing.{Beside, Stands, IsBlank}
+use Rattle.server_core.proofs.Besides.{only_live, stands-only, only-blank, rests-only}
+use Rattle.server_core.proofs.Driven.{leads-served}
+
+pub steps-leads : (old new : ServerCore) (h : machine.Happening) → Leads old new (λ s. step s h) → Steps serves old new h
+steps-leads old new h leads = λ o latest front s reached allowed served. leads-served old new (λ t. step t h) leads front s served
+
+-- ---- a new serial
+
+all_below : (n : ℕ) (cs : List Connection) → All (λ (c : Connection). c.serial < n) cs → AllBelow n cs
+all_below n [] h = tt
+all_below n (c ∷ cs) h = (h 0 c (omega arith), all_below n cs (λ k d l. h (suc k) d (omega arith)))
+
+new-serial : (n : ℕ) (s : State) → IsNewSerial n s → IsNew n s
+new-serial n s h = record { some = h.positive; above = all_below n s.connections h.above; untold = h.untold }
+
+above_none : (n : ℕ) (cs : List Connection) → AllBelow n cs → option_map_or is_live (find (has_serial n) cs) false ≡ false
+above_none n [] h = refl
+above_none n (c ∷ cs) h = by (c.serial == n) (other c.serial n h.0) (above_none n cs h.1)
+  where
+    other : (m n : ℕ) → m < n → (m == n) ≡ false
+    other m n h = grind arith
+
+    by : (b : Bool) → b ≡ false → option_map_or is_live (find (has_serial n) cs) false ≡ false → option_map_or is_live (cond b (Some c) (find (has_serial n) cs)) false ≡ false
+    by true e rest = absurd (let x : ⊥ = cc in x)
+    by false e rest = rest
+
+pub steps-joined : (old new : ServerCore) (n : ℕ) → ((b : Beside) (s : State) → IsBlank n b → IsNew n s → Stands b old s → Stands b new (accept n s)) → Steps serves old new (machine.Joined n)
+steps-joined old new n accepts = λ o latest front s reached allowed h.
+    let fresh : IsNew n s = new-serial n s (new-is-untold o latest s n reached allowed) in
+    let off : lives s n ≡ false = above_none n s.connections fresh.above in
+    record {
+      beside = only_live s h.beside;
+      front_is = h.front_is;
+      rests = rests-only s h.beside (λ m e. h.rests m);
+      stands = accepts (only_live s h.beside) s (only-blank s h.beside n off) fresh (stands-only (λ t. IsThere t t.active) h.beside old s h.stands);
+    }
