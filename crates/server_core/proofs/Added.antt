@@ -1,7 +1,8 @@
 -- A server with one more connection.
-use Rattle.std.specs.Prelude.{◌≡◌, refl, ℕ, ◌<◌, ◌==◌, Bool, true, false, ◌||◌, List, [], ◌∷◌, ◌++◌, length, nat_le, Option, Some, None, if◌then◌else◌}
+use Rattle.std.specs.Prelude.{◌≡◌, refl, ℕ, ◌<◌, ◌≤◌, ◌==◌, Bool, true, false, ◌||◌, List, [], ◌∷◌, ◌++◌, length, nat_le, Option, Some, None, if◌then◌else◌}
 use Rattle.std.specs.List.{list_any, find}
 use Rattle.std.specs.Option.{option_map_or}
+use Rattle.std.proofs.lemmas.Bool.Decides.{nat_tests}
 use Rattle.std.proofs.Common.{arith, sym, ap, ◌∙◌, subst}
 use Rattle.share_base.specs.declared.clip_id.ClipId.TheVariants.{Clipboard, Selection}
 use Rattle.message_reader.specs.Representation.{Represents}
@@ -100,3 +101,9 @@ new-lives serial s new = ap (λ (o : Option Connection). option_map_or is_live o
 
 pub full-or-greeted : (serial : ℕ) (s : State) (full : Bool) → nat_le most_open (length s.connections) ≡ full → choose full (part cause.Full serial) (greet serial) (opened serial s) ≡ accept serial s
 full-or-greeted serial s full e = ap (λ (t : Bool). choose t (part cause.Full serial) (greet serial) (opened serial s)) (sym e)
+
+pub at-most : (m n : ℕ) → m ≤ n → nat_le m n ≡ true
+at-most m n h = grind (arith, nat_tests)
+
+pub above-most : (m n : ℕ) → n < m → nat_le m n ≡ false
+above-most m n h = grind (arith, nat_tests)

@@ -26,11 +26,11 @@ for_each-one xs i rule s = ap (λ ys. for_each ys rule s) (take-one xs i) ∙ fo
 
 pub filter_map-append : {A B : Type 0} (f : A → Option B) (xs ys : List A) → filter_map f (xs ++ ys) ≡ filter_map f xs ++ filter_map f ys
 filter_map-append f [] ys = refl
-filter_map-append f (x ∷ xs) ys = by (f x) (filter_map-append f xs ys)
+filter_map-append f (x ∷ xs) ys = by (f x) _ _ _ (filter_map-append f xs ys)
   where
-    by : {B : Type 0} (o : Option B) {us vs ws : List B} → us ≡ vs ++ ws → cons_option o us ≡ cons_option o vs ++ ws
-    by None e = e
-    by (Some y) e = ap (λ zs. y ∷ zs) e
+    by : {B : Type 0} (o : Option B) (us vs ws : List B) → us ≡ vs ++ ws → cons_option o us ≡ cons_option o vs ++ ws
+    by None us vs ws e = e
+    by (Some y) us vs ws e = ap (λ zs. y ∷ zs) e
 
 -- the connections of one index stand for one another
 pub pairs-at : (R : kept.Connection → Connection → Type 0) (low : ℕ) (ks : List kept.Connection) (cs : List Connection) (i : ℕ) → Pairs R low ks cs → FoundPair R (slice_get ks i) (slice_get cs i)

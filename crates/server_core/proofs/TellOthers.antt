@@ -1,10 +1,11 @@
 -- Clients that are told a message one after another, without one of them.
-use Rattle.std.specs.Prelude.{◌≡◌, refl, ℕ, zero, suc, ◌+◌, ◌==◌, Bool, true, false, not, ◌||◌, cond, List, [], ◌∷◌, ◌++◌, length, take, filter, slice_get, Option, Some, None}
+use Rattle.std.specs.Prelude.{◌≡◌, refl, ℕ, zero, suc, ◌+◌, ◌<◌, ◌≤◌, ◌==◌, Bool, true, false, not, ◌||◌, cond, get_or, List, [], ◌∷◌, ◌++◌, length, take, filter, slice_get, Option, Some, None}
 use Rattle.std.specs.List.{list_any, filter_map, cons_option}
 use Rattle.std.specs.Option.{option_map, option_to_list}
 use Rattle.std.proofs.Common.{arith, sym, ap, ◌∙◌, subst}
 use Rattle.std.proofs.lemmas.Bool.{eqb-true, false_from_ne_true}
 use Rattle.std.proofs.lemmas.List.{take_all}
+use Rattle.std.proofs.lemmas.Option.{slice_get_read, slice_get_past}
 use Rattle.message_codec.specs.declared.messages.Msg.{Msg}
 use Rattle.hello_states.specs.Phases.{joined_screen}
 use Rattle.machine.specs.Targets.{Target, Primary, Client, Own}
@@ -44,11 +45,11 @@ other-none core m n i e = λ b s h. by b s h (slice_get s.connections i) (pair_a
 
 -- one that isn't joined
 pub other-unjoined : (core : ServerCore) (m : Msg) (n i : ℕ) (k : kept.Connection) → Some k ≡ slice_get core.table i → joined_screen (phase_of k.phase) ≡ None → Leads core core (tell_other_at i n m)
-other-unjoined core m n i k e no = λ b s h. by b s h (slice_get s.connections i) (pair_at b core s i (Some k) e h)
+other-unjoined core m n i k e none = λ b s h. by b s h (slice_get s.connections i) (pair_at b core s i (Some k) e h)
   where
     by : (b : Beside) (s : State) → Stands b core s → (o : Option Connection) → FoundPair (StandsFor (around b s)) (Some k) o → Stands b core (route_all Own (others_among n (option_to_list o)) m s)
     by b s h None f = absurd f
-    by b s h (Some c) f = subst (λ (p : Option ℕ). Stands b core (route_all Own (filter (is_other n) (cons_option (option_map (λ screen. Client c.serial) p) [])) m s)) (sym (ap joined_screen (sym f.phase) ∙ no)) h
+    by b s h (Some c) f = subst (λ (p : Option ℕ). Stands b core (route_all Own (filter (is_other n) (cons_option (option_map (λ screen. Client c.serial) p) [])) m s)) (sym (ap joined_screen (sym f.phase) ∙ none)) h
 
 -- the one that hears nothing
 pub other-itself : (core : ServerCore) (m : Msg) (n i serial screen : ℕ) (k : kept.Connection) → Some k ≡ slice_get core.table i → serial ≡ k.serial → serial ≡ n → joined_screen (phase_of k.phase) ≡ Some screen → Leads core core (tell_other_at i n m)
@@ -100,11 +101,11 @@ same_connections ts m s = for_each-keeps (λ t. t.connections ≡ s.connections)
 
 filter_append : {A : Type 0} (test : A → Bool) (xs ys : List A) → filter test (xs ++ ys) ≡ filter test xs ++ filter test ys
 filter_append test [] ys = refl
-filter_append {A} test (x ∷ xs) ys = by (test x) (filter_append test xs ys)
+filter_append {A} test (x ∷ xs) ys = by (test x) _ _ _ (filter_append test xs ys)
   where
-    by : (b : Bool) {us vs ws : List A} → us ≡ vs ++ ws → cond b (x ∷ us) us ≡ cond b (x ∷ vs) vs ++ ws
-    by true e = ap (λ zs. x ∷ zs) e
-    by false e = e
+    by : (b : Bool) (us vs ws : List A) → us ≡ vs ++ ws → cond b (x ∷ us) us ≡ cond b (x ∷ vs) vs ++ ws
+    by true us vs ws e = ap (λ zs. x ∷ zs) e
+    by false us vs ws e = e
 
 others_append : (n : ℕ) (cs ds : List Connection) → others_among n (cs ++ ds) ≡ others_among n cs ++ others_among n ds
 others_append n cs ds = ap (filter (is_other n)) (filter_map-append client_in cs ds) ∙ filter_append (is_other n) (filter_map client_in cs) (filter_map client_in ds)
@@ -123,3 +124,11 @@ others-all old now n i m e so_far = λ b s h.
 
 pub all-told : (old now new : ServerCore) (n : ℕ) (m : Msg) → LeadsWhere (λ s. IsThere s Primary) old now (route Own Primary m) → Leads now new (λ s. route_all Own (others_among n s.connections) m s) → Leads old new (λ s. route_all Own (all_but n s) m s)
 all-told old now new n m first rest = λ b s h. rest b (route Own Primary m s) (first b s tt h)
+
+-- ---- what a slice gives at an index
+
+pub got-none : {X : Type 0} (xs ys : List X) (i : ℕ) → length xs ≤ i → xs ≡ ys → None ≡ slice_get ys i
+got-none xs ys i le e = sym (slice_get_past xs i le) ∙ ap (λ zs. slice_get zs i) e
+
+pub got-some : {X : Type 0} (xs ys : List X) (i : ℕ) (x : X) → i < length xs → x ≡ get_or xs i x → xs ≡ ys → Some x ≡ slice_get ys i
+got-some xs ys i x lt at e = sym (slice_get_read xs (length xs) i x refl lt at) ∙ ap (λ zs. slice_get zs i) e

@@ -23,9 +23,9 @@ impl ServerCore {
         ensures { OnOk result ((b : Beside) (s : State) → IsBlank serial b → IsNew serial s
             → Stands b self.old s → Stands b self.new (acceptance.accept serial s)) }
     {
-        let open = self.table.as_slice().len();
-        self.open(serial)?;
-        if open >= MOST_OPEN {
+        let count = self.table.as_slice().len();
+        self.add_connection(serial)?;
+        if count >= MOST_OPEN {
             self.part(PartCause::Full, serial)?;
             return Ok(());
         }
@@ -38,7 +38,7 @@ impl ServerCore {
     }
 
     // Opens the connection of a serial that is greater than those of all others, and logs it.
-    fn open(&mut self, serial: u64) -> Result<(), OutOfMemory>
+    fn add_connection(&mut self, serial: u64) -> Result<(), OutOfMemory>
         ensures { OnOk result ((b : Beside) (s : State) → IsBlank serial b → IsNew serial s
             → Stands b self.old s → Stands b self.new (acceptance.opened serial s)) }
     {

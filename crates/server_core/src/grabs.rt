@@ -85,12 +85,7 @@ impl ServerCore {
     }
 
     // Tells the connection at that index a message, if it is joined and isn't that one.
-    fn tell_if_other(
-        &mut self,
-        index: usize,
-        serial: u64,
-        message: &Msg,
-    ) -> Result<(), OutOfMemory>
+    fn tell_if_other(&mut self, index: usize, serial: u64, message: &Msg) -> Result<(), OutOfMemory>
         requires { length (body_of message.now) ≤ BODY_LIMIT }
         ensures { OnOk result (Leads self.old self.new (tell_other_at index serial message.now)) }
     {
@@ -147,12 +142,14 @@ impl ServerCore {
             (screen_of s (Client serial)) seq s.sequence (clipboards.clip s clip))) }
         ensures keeps { IfOk result (λ kept. kept ≡ true → Leads self.old self.new
             (λ s. clipboards.set_clip clip (rules.known (screen_of s (Client serial)) seq bytes.now
-                (joined_screens s)) s)) }
+            (joined_screens s)) s)) }
         ensures unchanged { IfOk result (λ kept. kept ≡ false → self.new ≡ self.old) }
     {
         let screen = self.client_screen(serial);
         let joined = self.joined_screens();
-        let kept = self.clips.whole(clip, screen, seq, self.sequence, bytes, &joined)?;
+        let kept = self
+            .clips
+            .whole(clip, screen, seq, self.sequence, bytes, &joined)?;
         Ok(kept)
     }
 }

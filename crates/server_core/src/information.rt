@@ -154,9 +154,10 @@ impl ServerCore {
         ensures { Leads self.old self.new (λ s. when (same_target s.active (Client serial))
             (information.clamp_cursor shape) s) }
     {
-        if self.is_active(serial) {
-            let inside = clamped(&shape, self.cursor.point());
-            self.put_cursor(inside);
+        if !self.is_active(serial) {
+            return;
         }
+        let inside = clamped(&shape, self.cursor.point());
+        self.put_cursor(inside);
     }
 }

@@ -23,6 +23,6 @@ returns c = λ accepted b s p h.
     let t : State = route Own (Client c.args.serial) msg.QueryInfo s in
     let told : Stands b c.route.new.self t = c.in_ok-route.ensures Own b s (lives-open s c.args.serial (phase-lives s c.args.serial (Greeting accepted) p refl)) h in
     let known : c.args.screen.0 < length s.config.screens = subst (λ (g : Configuration). c.args.screen.0 < length g.screens) h.config c.requires.known in
-    let rated : c.globals.result.heartbeat ≡ rate s = ap (λ (g : Globals). g.heartbeat) c.globals.ensures.values ∙ ap (λ (g : Configuration). standing g.settings option.Heartbeat) told.config in
-    stands-advanced b c.route.new.self t c.admit.new.self c.args.serial (Greeting accepted) (after_hello (Admitted c.args.screen.0) accepted (rate s) s.at) (admitted_as c.args.screen.0 c.globals.result.heartbeat) (admission-ends c.args.screen.0 c.globals.result.heartbeat) (λ k. known)
+    let rated : c.globals-rate.result.heartbeat ≡ rate s = ap (λ (g : Globals). g.heartbeat) c.globals-rate.ensures.values ∙ ap (λ (g : Configuration). standing g.settings option.Heartbeat) told.config in
+    stands-advanced b c.route.new.self t c.admit.new.self c.args.serial (Greeting accepted) (after_hello (Admitted c.args.screen.0) accepted (rate s) s.at) (admitted_as c.args.screen.0 c.globals-rate.result.heartbeat) (admission-ends c.args.screen.0 c.globals-rate.result.heartbeat) (λ k. known)
     (ap (λ (n : ℕ). Asked (record { screen = c.args.screen.0; accepted = accepted; rate = n })) rated) refl p told c.admit.ensures

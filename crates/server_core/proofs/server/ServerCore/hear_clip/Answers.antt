@@ -1,5 +1,0 @@
-use Rattle.std.specs.Prelude.{◌≡◌}
-use Rattle.server_core.proofs.server.ServerCore.hear_clip.Goals as goal
-
-pub returns : goal.returns
-returns c = ?
