@@ -1,6 +1,6 @@
 -- A connection that doesn't live any more doesn't live again.
 use Rattle.std.specs.Prelude.{◌≡◌, refl, ℕ, Bool, true, false, Option, Some}
-use Rattle.std.proofs.Common.{arith, sym, ap, ◌∙◌, subst}
+use Rattle.std.proofs.Common.{ap, subst}
 use Rattle.share_base.specs.declared.reason.Reason.{Reason}
 use Rattle.message_codec.specs.Inboxes.{Inbox}
 use Rattle.hello_states.specs.declared.part_cause.PartCause.{PartCause}

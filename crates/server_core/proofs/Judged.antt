@@ -1,7 +1,7 @@
 -- What a bad frame leads to.
-use Rattle.std.specs.Prelude.{◌≡◌, refl, ℕ, Bool, true, false, Option, Some, None}
+use Rattle.std.specs.Prelude.{◌≡◌, refl, ℕ, true, false, Option, Some, None}
 use Rattle.std.specs.Option.{option_map}
-use Rattle.std.proofs.Common.{arith, sym, ap, ◌∙◌, subst}
+use Rattle.std.proofs.Common.{sym, ap, ◌∙◌}
 use Rattle.share_base.specs.declared.reason.Reason.{Reason}
 use Rattle.message_codec.specs.Inboxes.{Inbox}
 use Rattle.message_reader.specs.declared.reader.BadFrame.{BadFrame}

@@ -6,7 +6,7 @@ use Rattle.std.proofs.Common.{arith, sym, ap, ◌∙◌, subst}
 use Rattle.std.proofs.lemmas.List.{drop_at, length-append}
 use Rattle.share_base.specs.declared.reason.Reason.{Reason}
 use Rattle.message_codec.specs.declared.messages.Msg.{Msg}
-use Rattle.message_codec.specs.Inboxes.{Inbox, HasVerdict}
+use Rattle.message_codec.specs.Inboxes.{Inbox}
 use Rattle.message_codec.proofs.InboxVerdicts.{inbox-verdict}
 use Rattle.message_reader.specs.declared.reader.BadFrame.{BadFrame}
 use Rattle.message_reader.specs.Roles.{server}
@@ -14,7 +14,7 @@ use Rattle.hello_states.specs.Phases.{is_parting}
 use Rattle.machine.specs.Connections.{Connection, is_live}
 use Rattle.machine.specs.States.{State}
 use Rattle.machine.specs.Combining.{when, for_each}
-use Rattle.machine.specs.Screens.{connection, lives, change}
+use Rattle.machine.specs.Screens.{lives, change}
 use Rattle.machine.specs.Hearing.{hear}
 use Rattle.machine.specs.Steps.{inbox_of, received_by, receives, judge, hear_added, hear_piece, got}
 use Rattle.connection_table.specs.declared.connection.Connection as kept
@@ -22,7 +22,7 @@ use Rattle.connection_table.specs.declared.reading.Reading.{Reading}
 use Rattle.connection_table.specs.PhaseOf.{phase_of}
 use Rattle.connection_table.specs.Tables.{is_of, ChangesAt}
 use Rattle.connection_table.specs.Calls.{Reads}
-use Rattle.connection_table.proofs.Readings.{appended, appended-at, appended-other, brought, are-read, ComesTo, are-concluded}
+use Rattle.connection_table.proofs.Readings.{appended, are-read, ComesTo, are-concluded}
 use Rattle.server_core.specs.declared.server.ServerCore.{ServerCore}
 use Rattle.server_core.specs.Targets.{IsThere}
 use Rattle.server_core.specs.Standing.{Beside, around, Stands}

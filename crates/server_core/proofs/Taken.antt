@@ -2,10 +2,10 @@
 use Rattle.std.specs.Prelude.{◌≡◌, ℕ, ◌+◌, ◌≤◌, ◌<◌, ◌==◌, true, List, [], length, Option, Some, None, IfSome, unwrap_or}
 use Rattle.std.specs.List.{find}
 use Rattle.std.specs.Option.{option_map, option_map_or}
-use Rattle.std.proofs.Common.{arith, sym, ap, ◌∙◌, subst, refl}
+use Rattle.std.proofs.Common.{arith, sym, ap, ◌∙◌, refl}
 use Rattle.machine.specs.Connections.{Connection}
 use Rattle.machine.specs.States.{State}
-use Rattle.machine.specs.Screens.{connection, taken_by}
+use Rattle.machine.specs.Screens.{taken_by}
 use Rattle.machine.specs.Queues.{queue, total}
 use Rattle.machine.proofs.Finding.{found-passes}
 use Rattle.send_queue.specs.Standing.{rest_of}

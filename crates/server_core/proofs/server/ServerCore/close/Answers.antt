@@ -1,4 +1,4 @@
-use Rattle.std.specs.Prelude.{◌≡◌, ◌++◌}
+use Rattle.std.specs.Prelude.{◌++◌}
 use Rattle.std.proofs.Common.{ap, ◌∙◌}
 use Rattle.machine.specs.States.{Closed}
 use Rattle.machine.specs.Logs.{log_line}

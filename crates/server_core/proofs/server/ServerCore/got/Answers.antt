@@ -1,10 +1,8 @@
-use Rattle.std.specs.Prelude.{◌≡◌, true, not, ◌^◌, length}
+use Rattle.std.specs.Prelude.{◌^◌, length}
 use Rattle.std.proofs.Common.{arith, sym, ◌∙◌, subst}
-use Rattle.hello_states.specs.Phases.{is_parting}
 use Rattle.machine.specs.Combining.{for_each}
 use Rattle.machine.specs.Hearing.{hear}
 use Rattle.machine.specs.Steps as steps
-use Rattle.connection_table.specs.PhaseOf.{phase_of}
 use Rattle.server_core.specs.Leading.{Leads}
 use Rattle.server_core.proofs.Besides.{only_live}
 use Rattle.server_core.proofs.Taken.{found_serial}
