@@ -11,3 +11,4 @@ pub mod Gone
 pub mod WriteFlags
 pub mod QuietSteps
 pub mod TakenAtWaits
+pub mod OpenTogether

@@ -110,7 +110,7 @@ kept o c acts j a is other closed marks quiet same k h = by (k.refused (rest-bef
 
 -- no act but a wait marks it
 unmarked : (c : ℕ) (a : Act) (j : Judge) → marks_writable c a ≡ false → (m : Bool) → marks_writable c a ≡ m → is_among c (flag_serials j.flags.streams) ≡ true → (m ≡ true) → is_set c (flags_with a j.flags).streams ≡ true
-unmarked c a j none m e among yes = absurd (let x : ⊥ = cc in x)
+unmarked c a j none m e among marked = absurd (let x : ⊥ = cc in x)
 
 not_open : (c : ℕ) (s : State) → is_among c (serials s.connections) ≡ false → has_rest s c ≡ true → ⊥
 not_open c s none h =
@@ -168,7 +168,7 @@ next_serial (Leaves (c ∷ rest)) j n h = absurd h
 
 -- where its queue didn't grow
 unchanged : (o : Origin) (c : ℕ) (acts : List Act) (j : Judge) (a : Act) → j ≡ judged (first_judge (start_of o)) acts → AllowsAt j.place j a → IsReached o (judge_after j a) → total (state_after a j.state).routed c ≡ total j.state.routed c → Stands o c acts j → Next o c acts j a
-unchanged o c acts j (act.Wait ms waited.Ready marks) is w after same k = kept o c acts j (act.Wait ms waited.Ready marks) is refl refl (λ m e among yes. marks-sets c marks j.flags (e ∙ yes) among) (quietly-same c j.state) refl k
+unchanged o c acts j (act.Wait ms waited.Ready marks) is w after same k = kept o c acts j (act.Wait ms waited.Ready marks) is refl refl (λ m e among marked. marks-sets c marks j.flags (e ∙ marked) among) (quietly-same c j.state) refl k
 unchanged o c acts j (act.Now t) is w after same k = kept o c acts j (act.Now t) is refl refl (unmarked c (act.Now t) j refl) (quietly-moment c t j.state) same k
 unchanged o c acts j (act.Accept (accepted.New d)) is w after same k = at (d == c) refl
   where

@@ -6,3 +6,4 @@ pub mod Judging
 pub mod Laws
 pub mod Offered
 pub mod ReachedActs
+pub mod OpenTogether

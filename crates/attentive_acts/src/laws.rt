@@ -2,6 +2,7 @@
 
 ghost use Rattle.attentive_acts.specs.Laws.{ReadsTheLiving, WritesWhatIsQueued, TakenInOrder};
 ghost use Rattle.attentive_acts.specs.Offered.{AllTakenAtClosings, AllTakenAtWaits, ClosedOnQuit};
+ghost use Rattle.attentive_acts.specs.OpenTogether.{OpenTogether};
 ghost use Rattle.attentive_acts.specs.ReachedActs.{AttentiveIsReached};
 
 /// A connection that is read is open, and isn't parting.
@@ -39,4 +40,9 @@ pub fn all_taken_at_closings()
 /// Where a run has quit, each connection that it accepted was closed in a turn.
 pub fn closed_on_quit()
     ensures { ClosedOnQuit }
+{}
+
+/// Each act opens and closes the same connections for the machine, for the flags and for the hub.
+pub fn open_together()
+    ensures { OpenTogether }
 {}

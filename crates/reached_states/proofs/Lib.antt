@@ -9,3 +9,4 @@ pub mod Taken
 pub mod Promises
 pub mod EachConnection
 pub mod Dropped
+pub mod Untaken

@@ -1,10 +1,10 @@
 -- The laws on the serials of the connections that are open: which ones a happening adds and removes, that they rise, and
 -- that the one to be closed is open.
-use Rattle.std.specs.Prelude.{◌≡◌, ℕ, ◌<◌, ◌≤◌, ◌==◌, not, List, [], ◌∷◌, ◌++◌, length, filter, All, Some}
+use Rattle.std.specs.Prelude.{◌≡◌, ℕ, ◌<◌, ◌≤◌, ◌+◌, ◌==◌, not, List, [], ◌∷◌, ◌++◌, length, filter, All, Some}
 use Rattle.machine.specs.Connections.{Connection, serials}
 use Rattle.machine.specs.States.{State}
 use Rattle.machine.specs.Screens.{taken_by}
-use Rattle.machine.specs.Queues.{queue}
+use Rattle.machine.specs.Queues.{most_untaken, queue}
 use Rattle.machine.specs.Readings.{closing}
 use Rattle.machine.specs.Happenings.{Happening, Joined, Closed, IsOpen}
 use Rattle.machine.specs.Steps.{step}
@@ -41,3 +41,7 @@ ClosingIsOpen = (s : State) (serial : ℕ) → closing s ≡ Some serial → IsO
 -- a connection has taken no more bytes than are queued for it
 abbrev pub TakenIsQueued : Type 0
 TakenIsQueued = (o : Origin) (latest : ℕ) (s : State) (serial : ℕ) → Reached o latest s → taken_by s serial ≤ length (queue s.routed serial)
+
+-- and it is never owed more than the limit
+abbrev pub UntakenIsBounded : Type 0
+UntakenIsBounded = (o : Origin) (latest : ℕ) (s : State) (serial : ℕ) → Reached o latest s → IsOpen s serial → length (queue s.routed serial) ≤ taken_by s serial + most_untaken

@@ -4,7 +4,9 @@ ghost use Rattle.reached_states.specs.Dropped.{LiveKeepBytes};
 ghost use Rattle.reached_states.specs.FewOpen.{FewAreOpen};
 ghost use Rattle.reached_states.specs.Growing.{LogGrows};
 ghost use Rattle.reached_states.specs.NewSerials.{NewIsUntold};
-ghost use Rattle.reached_states.specs.OpenSerials.{ClosingIsOpen, OpenAfter, SerialsRise, TakenIsQueued};
+ghost use Rattle.reached_states.specs.OpenSerials.{
+    ClosingIsOpen, OpenAfter, SerialsRise, TakenIsQueued, UntakenIsBounded,
+};
 ghost use Rattle.reached_states.specs.Promises.{AllQueuedWhereReached, HeldWhereReached, OneForOneWhereReached};
 ghost use Rattle.reached_states.specs.Reaching.{GoesOn};
 
@@ -42,6 +44,11 @@ pub fn closing_is_open()
 /// A connection has taken no more bytes than are queued for it.
 pub fn taken_is_queued()
     ensures { TakenIsQueued }
+{}
+
+/// At most 16,777,216 bytes of an open connection's queue are untaken.
+pub fn untaken_is_bounded()
+    ensures { UntakenIsBounded }
 {}
 
 /// At most 64 connections are open that don't part as one too many, and at most 64 in all where none is
