@@ -49,14 +49,3 @@ pub copy-published : (old kept_core told new : ServerCore) (id : ClipId) (bytes 
 copy-published old kept_core told new id bytes sharing counts reads shares e is keeps tells gives = λ b s h.
     let all : (is_sharing s && rules.copy_counts (clip_limit s) bytes) ≡ true = ap (λ (t : Bool). t && rules.copy_counts (clip_limit s) bytes) (sym (reads b s h) ∙ shares) ∙ (ap (λ n. rules.copy_counts n bytes) (sym h.clips_limit) ∙ (sym e ∙ is)) in
     subst (λ (t : Bool). Stands b new (when t (publish id bytes) s)) (sym all) (subst (λ t. Stands b new t) (published id bytes s) (gives b _ (tells b _ (keeps b s h))))
-
--- one that doesn't
-pub copy-unshared : (core : ServerCore) (id : ClipId) (bytes : List ℕ) (sharing : Bool) → Reads core sharing is_sharing → sharing ≡ false → Leads core core (copy id bytes)
-copy-unshared core id bytes sharing reads off = λ b s h. subst (λ (t : Bool). Stands b core (when (t && rules.copy_counts (clip_limit s) bytes) (publish id bytes) s)) (sym (sym (reads b s h) ∙ off)) h
-
-pub copy-beyond : (core : ServerCore) (id : ClipId) (bytes : List ℕ) (counts : Bool) → counts ≡ rules.copy_counts core.clips.limit bytes → counts ≡ false → Leads core core (copy id bytes)
-copy-beyond core id bytes counts e off = λ b s h. subst (λ (t : Bool). Stands b core (when t (publish id bytes) s)) (sym (never (is_sharing s) (rules.copy_counts (clip_limit s) bytes) (ap (λ n. rules.copy_counts n bytes) (sym h.clips_limit) ∙ (sym e ∙ off)))) h
-  where
-    never : (a t : Bool) → t ≡ false → (a && t) ≡ false
-    never true t e = e
-    never false t e = refl

@@ -1,8 +1,8 @@
 -- Connections that are told goodbye one after another.
 use Rattle.std.specs.Prelude.{◌≡◌, refl, ℕ, ◌+◌, true, List, length, map, take, slice_get, Option, Some, None}
 use Rattle.std.specs.Option.{option_map, option_to_list}
-use Rattle.std.proofs.Common.{arith, sym, ap, ◌∙◌, subst, length-map}
-use Rattle.std.proofs.lemmas.List.{take_all}
+use Rattle.std.proofs.Common.{arith, sym, ap, ◌∙◌, subst}
+use Rattle.std.proofs.lemmas.List.{take_all, length-map}
 use Rattle.std.proofs.lemmas.Option.{slice_get-map}
 use Rattle.machine.specs.Connections.{Connection, serials}
 use Rattle.machine.specs.States.{State}

@@ -26,6 +26,7 @@ pub mod Taken
 pub mod Closed
 pub mod Judged
 pub mod JoinedScreens
+pub mod Steady
 pub mod Indexed
 pub mod ScriptLines
 pub mod ScriptTurns
@@ -46,3 +47,5 @@ pub mod Options
 pub mod Dispatch
 pub mod Happened
 pub mod Offering
+pub mod ActedAll
+pub mod Same

@@ -15,23 +15,6 @@ use Rattle.server_core.specs.NextLine.{may_run_first, may_run_next, run_first, r
 use Rattle.server_core.specs.Standing.{Beside, Stands}
 use Rattle.server_core.specs.Leading.{Leads, Reads}
 
-first_may : (xs : List ScriptLine) (n : ℕ) (s : State) → may_run_first (map line_of (drop n xs)) s ≡ option_map_or (λ l. may_run s (line_of l)) (slice_get xs n) false
-first_may [] zero s = refl
-first_may [] (suc n) s = refl
-first_may (x ∷ xs) zero s = refl
-first_may (x ∷ xs) (suc n) s = first_may xs n s
-
-next_may : (b : Beside) (core : ServerCore) (s : State) (o : Option ScriptLine) → slice_get core.script.lines core.ran ≡ o → Stands b core s → may_run_next s ≡ option_map_or (λ l. may_run s (line_of l)) o false
-next_may b core s o e h = ap (λ ls. may_run_first ls s) (sym h.lines) ∙ (first_may core.script.lines core.ran s ∙ ap (λ p. option_map_or (λ l. may_run s (line_of l)) p false) e)
-
-pub may-none : (core : ServerCore) → slice_get core.script.lines core.ran ≡ None → Reads core false may_run_next
-may-none core e = λ b s h. sym (next_may b core s None e h)
-
-pub may-some : (core : ServerCore) (l : ScriptLine) (awake met : Bool) → slice_get core.script.lines core.ran ≡ Some l → Reads core awake is_awake → Reads core met (λ s. is_met s (line_of l)) → Reads core (not core.has_quit && (awake && met)) may_run_next
-may-some core l awake met e a m = λ b s h. ap (λ (t : Bool). not t && (awake && met)) h.has_quit ∙ (ap (λ (t : Bool). not s.has_quit && (t && met)) (a b s h) ∙ (ap (λ (t : Bool). not s.has_quit && (is_awake s && t)) (m b s h) ∙ sym (next_may b core s (Some l) e h)))
-
--- ---- it is run
-
 ahead_some : (xs : List ScriptLine) (n : ℕ) (l : ScriptLine) → slice_get xs n ≡ Some l → map line_of (drop n xs) ≡ line_of l ∷ map line_of (drop (suc n) xs)
 ahead_some [] n l e = absurd (let x : ⊥ = cc in x)
 ahead_some (x ∷ xs) zero l e = let is : x ≡ l = cc in ap (λ y. line_of y ∷ map line_of xs) is

@@ -39,7 +39,7 @@ script_next : (l : Line) (ahead : List Line) (s : State) → s.lines ≡ l ∷ a
 script_next l ahead s e may = ap (λ ls. run_ahead ls s) e ∙ (ap (λ (t : Bool). choose t (λ u. run_ahead ahead (run_line l ahead u)) unchanged s) may ∙ ap (λ ls. run_ahead ls (run_line l ahead s)) (sym (ahead_after l ahead s)))
 
 script_stays : (s : State) → may_run_next s ≡ false → run_script s ≡ s
-script_stays s no = by s.lines no
+script_stays s off = by s.lines off
   where
     by : (ls : List Line) → may_run_first ls s ≡ false → run_ahead ls s ≡ s
     by [] e = refl
@@ -66,15 +66,16 @@ runs-over old now n may so_far is reads = λ b s h.
     let r : Run b now n s = so_far b s h in
     subst (λ t. Stands b now t) (sym (script_stays r.state (sym (reads b r.state r.stands) ∙ is)) ∙ r.ends) r.stands
 
+drop_none : {A : Type 0} (n : ℕ) (xs : List A) → xs ≡ [] → drop n xs ≡ []
+drop_none zero xs e = e
+drop_none (suc n) [] e = refl
+drop_none (suc n) (x ∷ xs) e = absurd (let y : ⊥ = cc in y)
+
 drop_past : {A B : Type 0} (f : A → B) (n m : ℕ) (xs : List A) → length xs ≤ n → drop n (map f (drop m xs)) ≡ []
-drop_past f n zero [] le = nothing n
-  where
-    nothing : {C : Type 0} (k : ℕ) → drop k ([] {A = C}) ≡ []
-    nothing zero = refl
-    nothing (suc k) = refl
+drop_past f n zero [] le = drop_none n [] refl
 drop_past f zero zero (x ∷ xs) le = absurd (omega arith)
 drop_past f (suc n) zero (x ∷ xs) le = drop_past f n zero xs (omega arith)
-drop_past f n (suc m) [] le = drop_past f n zero [] le
+drop_past f n (suc m) [] le = drop_none n [] refl
 drop_past f n (suc m) (x ∷ xs) le = drop_past f n m xs (omega arith)
 
 -- as many turns as there are lines

@@ -1,8 +1,9 @@
 -- Joined connections that are told a message one after another, and who is joined.
 use Rattle.std.specs.Prelude.{◌≡◌, refl, ℕ, zero, suc, ◌+◌, ◌==◌, Bool, true, false, ◌||◌, cond, is_some, List, [], ◌∷◌, ◌++◌, length, take, slice_get, Option, Some, None}
-use Rattle.std.specs.List.{find, list_any, filter_map, cons_option}
-use Rattle.std.specs.Option.{option_map, option_map_or, option_to_list}
+use Rattle.std.specs.List.{find, list_any, cons_option}
+use Rattle.std.specs.Option.{option_map, option_to_list}
 use Rattle.std.proofs.Common.{arith, sym, ap, ◌∙◌, subst}
+use Rattle.std.proofs.lemmas.Bool.{eqb-true, false_from_ne_true}
 use Rattle.std.proofs.lemmas.List.{take_all}
 use Rattle.message_codec.specs.declared.messages.Msg.{Msg}
 use Rattle.hello_states.specs.Phases.{joined_screen}
@@ -10,11 +11,12 @@ use Rattle.machine.specs.Targets.{Target, Client, Own}
 use Rattle.machine.specs.Connections.{Connection, has_serial}
 use Rattle.machine.specs.States.{State}
 use Rattle.machine.specs.Combining.{for_each}
-use Rattle.machine.specs.Screens.{screen_in, is_number, is_joined_as, joined_clients, is_screen_joined}
+use Rattle.machine.specs.Screens.{screen_in, joined_clients, is_screen_joined}
 use Rattle.machine.specs.Routing.{route, route_all}
 use Rattle.machine.proofs.Rules.{for_each-keeps}
 use Rattle.connection_table.specs.declared.connection.Connection as kept
 use Rattle.connection_table.specs.PhaseOf.{phase_of}
+use Rattle.connection_table.specs.Tables as tables
 use Rattle.connection_table.specs.Standing.{StandsFor}
 use Rattle.connection_table.proofs.Pairs.{FoundPair, pairs-length}
 use Rattle.server_core.specs.declared.server.ServerCore.{ServerCore}
@@ -23,6 +25,7 @@ use Rattle.server_core.specs.Telling.{joined_among, tell_at}
 use Rattle.server_core.specs.Standing.{Beside, around, Stands}
 use Rattle.server_core.specs.Leading.{Leads, LeadsWhere}
 use Rattle.server_core.proofs.Indexed.{take-one, filter_map-append, pairs-at}
+use Rattle.server_core.proofs.JoinedScreens.{set-joined}
 use Rattle.server_core.proofs.Loops.{for_each-append}
 
 -- ---- one
@@ -39,11 +42,11 @@ told-none core m i e = λ b s h. by b s h (slice_get s.connections i) (pair_at b
 
 -- one that isn't joined
 pub told-other : (core : ServerCore) (m : Msg) (i : ℕ) (k : kept.Connection) → Some k ≡ slice_get core.table i → joined_screen (phase_of k.phase) ≡ None → Leads core core (tell_at i m)
-told-other core m i k e no = λ b s h. by b s h (slice_get s.connections i) (pair_at b core s i (Some k) e h)
+told-other core m i k e off = λ b s h. by b s h (slice_get s.connections i) (pair_at b core s i (Some k) e h)
   where
     by : (b : Beside) (s : State) → Stands b core s → (o : Option Connection) → FoundPair (StandsFor (around b s)) (Some k) o → Stands b core (route_all Own (joined_among (option_to_list o)) m s)
     by b s h None f = absurd f
-    by b s h (Some c) f = subst (λ (p : Option ℕ). Stands b core (route_all Own (cons_option (option_map (λ screen. Client c.serial) p) []) m s)) (sym (ap joined_screen (sym f.phase) ∙ no)) h
+    by b s h (Some c) f = subst (λ (p : Option ℕ). Stands b core (route_all Own (cons_option (option_map (λ screen. Client c.serial) p) []) m s)) (sym (ap joined_screen (sym f.phase) ∙ off)) h
 
 there_at : (cs : List Connection) (i : ℕ) (c : Connection) → slice_get cs i ≡ Some c → list_any (has_serial c.serial) cs ≡ true
 there_at [] i c e = absurd (let x : ⊥ = cc in x)
@@ -93,14 +96,18 @@ tells-all old now n m e so_far = λ b s h.
 
 -- ---- who is joined
 
-pub joined-any : (n : ℕ) (cs : List Connection) → list_any (is_number n) (filter_map screen_in cs) ≡ is_some (find (is_joined_as n) cs)
-joined-any n [] = refl
-joined-any n (c ∷ cs) = by (screen_in c) (joined-any n cs)
+any_found : {A : Type 0} (t : A → Bool) (xs : List A) → is_some (find t xs) ≡ list_any t xs
+any_found t [] = refl
+any_found t (x ∷ xs) = by (t x) (any_found t xs)
   where
-    either : (b : Bool) → list_any (is_number n) (filter_map screen_in cs) ≡ is_some (find (is_joined_as n) cs) → (b || list_any (is_number n) (filter_map screen_in cs)) ≡ is_some (cond b (Some c) (find (is_joined_as n) cs))
-    either true e = refl
-    either false e = e
+    by : (b : Bool) → is_some (find t xs) ≡ list_any t xs → is_some (cond b (Some x) (find t xs)) ≡ (b || list_any t xs)
+    by true e = refl
+    by false e = e
 
-    by : (o : Option ℕ) → list_any (is_number n) (filter_map screen_in cs) ≡ is_some (find (is_joined_as n) cs) → list_any (is_number n) (cons_option o (filter_map screen_in cs)) ≡ is_some (cond (option_map_or (is_number n) o false) (Some c) (find (is_joined_as n) cs))
-    by None e = e
-    by (Some m) e = either (m == n) e
+-- a screen that isn't the primary
+pub other-joined : (b : Beside) (core : ServerCore) (s : State) (n primary : ℕ) (there : Bool) → primary ≡ s.primary → (n ≡ primary → ⊥) → there ≡ is_some (find (tables.is_joined_as n) core.table) → Stands b core s → there ≡ is_screen_joined s n
+other-joined b core s n primary there e other is h =
+    is ∙ (any_found (tables.is_joined_as n) core.table ∙ (ap (λ x. x || list_any (tables.is_joined_as n) core.table) (sym (apart n primary other)) ∙ set-joined b core s n primary e h))
+  where
+    apart : (n m : ℕ) → (n ≡ m → ⊥) → (n == m) ≡ false
+    apart n m d = false_from_ne_true (n == m) (λ same. d (eqb-true n m same))

@@ -24,3 +24,6 @@ pub mod Using
 pub mod Accepting
 pub mod Joining
 pub mod Hearing
+pub mod Telling
+pub mod NextLine
+pub mod Goodbyes

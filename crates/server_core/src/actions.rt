@@ -28,7 +28,7 @@ impl ServerCore {
     pub(crate) fn act_all(&mut self, list: &[Action]) -> Result<(), OutOfMemory>
         ensures { OnOk result ((o : Origin) → Leads self.old self.new (actions.act_all o list.now)) }
     {
-        for action in list.iter() {
+        for action in list {
             self.act(*action)?;
         }
         Ok(())
@@ -148,7 +148,10 @@ impl ServerCore {
         ensures { OnOk result ((o : Origin) → LeadsWhere (λ s. IsThere s (meant target))
             self.old self.new (actions.switch_to o (meant target))) }
     {
-        if !self.may_switch() || self.has_cursor(target) {
+        if !self.may_switch() {
+            return Ok(());
+        }
+        if self.has_cursor(target) {
             return Ok(());
         }
         let shape = self.shape_of(target);
