@@ -9,11 +9,11 @@ use Rattle.machine.specs.Targets.{Client}
 use Rattle.machine.specs.States.{State}
 use Rattle.machine.specs.Combining.{when, for_some, unchanged}
 use Rattle.machine.specs.Screens.{lives}
-use Rattle.machine.specs.Partings.{say_farewell, marked, lose, screen_joined, part}
+use Rattle.machine.specs.Partings.{parted, say_farewell, marked, lose, screen_joined, part}
 use Rattle.machine.specs.Slow.{part_slow}
-use Rattle.machine.specs.Steps.{judge}
+use Rattle.machine.specs.Steps.{drops, judge}
 use Rattle.machine.proofs.Rules.{for_some-keeps}
-use Rattle.machine.proofs.Live.{IsLive, changed-live, removed-live, lives-live}
+use Rattle.machine.proofs.Live.{IsLive, changed-live, lives-live, parted-tame, drops-tame}
 use Rattle.machine.proofs.Invariant.{View, On, IsInvariant}
 use Rattle.machine.proofs.AnyButton.{any, any_origin, rules-any, lines-any}
 use Rattle.machine.proofs.KeepPartings.{marked-off, lose-keeps, part_slow-keeps}
@@ -30,8 +30,10 @@ gone n = record {
   input = λ o a m p b s h. h;
   switched = λ o a to p s on h. h;
   fell = λ p s off h. h;
-  changed = λ serial f tame same s h. λ k. h (changed-live serial f tame s.connections (Client n) k);
-  closed = λ serial s h. λ k. h (removed-live serial s.connections (Client n) k);
+  changed = λ serial f tame same none s h. λ k. h (changed-live serial f tame s.connections (Client n) k);
+  parts = λ cause serial s on h. λ k. h (changed-live serial (parted cause s.at) (parted-tame cause s.at) s.connections (Client n) k);
+  discards = λ serial s off h. λ k. h (changed-live serial drops drops-tame s.connections (Client n) k);
+  logged = λ lines s h. h;
   ahead = λ lines k s h. h;
 }
 

@@ -26,7 +26,6 @@ pub mod Taken
 pub mod Closed
 pub mod Judged
 pub mod JoinedScreens
-pub mod Steady
 pub mod Indexed
 pub mod ScriptLines
 pub mod ScriptTurns

@@ -24,6 +24,3 @@ pub mod Using
 pub mod Accepting
 pub mod Joining
 pub mod Hearing
-pub mod Telling
-pub mod NextLine
-pub mod Goodbyes
