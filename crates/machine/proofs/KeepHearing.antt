@@ -69,7 +69,7 @@ heard_parting now (Asked a) = refl
 heard_parting now (Joined a) = refl
 heard_parting now (Parting a b) = refl
 
-heard-steady : (now : ℕ) → IsSteady (was_heard now)
+pub heard-steady : (now : ℕ) → IsSteady (was_heard now)
 heard-steady now c = (refl, ap not (heard_parting now c.phase))
 
 heard_phase : (now : ℕ) (phase : Phase) → not (is_parting phase) ≡ false → after_hearing_in phase now ≡ phase
@@ -81,7 +81,7 @@ heard_phase now (Parting a b) off = refl
 heard-parts : (now : ℕ) → PartsNone (was_heard now)
 heard-parts now c = (refl, λ on. (heard-steady now c).1 ∙ on, heard_phase now c.phase)
 
-with_part-steady : (p : Part) → IsSteady (with_part p)
+pub with_part-steady : (p : Part) → IsSteady (with_part p)
 with_part-steady p c = (refl, refl)
 
 -- ---- the answer to the greeting

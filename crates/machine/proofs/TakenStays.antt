@@ -46,9 +46,9 @@ changed_stays n count serial f tame same (d ∷ cs) h c e = by (has_serial n d) 
         ap (λ (x : Connection). x.taken) (sym (some_is (changed_at serial f d) c is)) ∙ same_taken serial f same d ∙ here d refl
     by false k here later e = later here c (ap (λ (t : Bool). cond t (Some (changed_at serial f d)) (with_serial n (changed serial f cs))) (sym k) ∙ e)
 
-none_left : (n : ℕ) (cs : List Connection) → with_serial n (removed n cs) ≡ None
-none_left n [] = refl
-none_left n (d ∷ cs) = by (has_serial n d) refl (none_left n cs)
+pub none-left : (n : ℕ) (cs : List Connection) → with_serial n (removed n cs) ≡ None
+none-left n [] = refl
+none-left n (d ∷ cs) = by (has_serial n d) refl (none-left n cs)
   where
     by : (b : Bool) → has_serial n d ≡ b → with_serial n (removed n cs) ≡ None → with_serial n (cond (not b) (d ∷ removed n cs) (removed n cs)) ≡ None
     by true k rest = rest
@@ -68,7 +68,7 @@ removed_stays n count serial (d ∷ cs) h c e = by (has_serial serial d) (has_se
     by true false one k here later e = later here c e
     by true true one k here later e =
         let is : serial ≡ n = same_number d.serial serial n one k in
-        none_some c (sym (none_left n cs) ∙ subst (λ (m : ℕ). with_serial n (removed m cs) ≡ Some c) is e)
+        none_some c (sym (none-left n cs) ∙ subst (λ (m : ℕ). with_serial n (removed m cs) ≡ Some c) is e)
 
 pub invariant : (n count : ℕ) → IsInvariant any any_origin (TakenStays n count)
 invariant n count = record {

@@ -10,3 +10,7 @@ pub mod Promises
 pub mod EachConnection
 pub mod Dropped
 pub mod Untaken
+pub mod ActiveJoined
+pub mod ActiveJoinedRules
+pub mod ActiveScreens
+pub mod ToldNothing

@@ -5,3 +5,4 @@ pub mod OpenSerials
 pub mod FewOpen
 pub mod Promises
 pub mod Dropped
+pub mod ActiveScreens

@@ -1,5 +1,6 @@
 //! What holds of every state that the machine reaches.
 
+ghost use Rattle.reached_states.specs.ActiveScreens.{ActiveIsJoined};
 ghost use Rattle.reached_states.specs.Dropped.{LiveKeepBytes};
 ghost use Rattle.reached_states.specs.FewOpen.{FewAreOpen};
 ghost use Rattle.reached_states.specs.Growing.{LogGrows};
@@ -55,6 +56,11 @@ pub fn untaken_is_bounded()
 /// to be closed.
 pub fn few_are_open()
     ensures { FewAreOpen }
+{}
+
+/// The active screen's connection, where it is open, is joined, and never is the one to be closed.
+pub fn active_is_joined()
+    ensures { ActiveIsJoined }
 {}
 
 /// A connection that lives has no bytes dropped.

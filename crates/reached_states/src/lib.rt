@@ -7,7 +7,7 @@
 mod laws;
 
 pub use laws::{
-    all_queued_where_reached, closing_is_open, few_are_open, goes_on, held_where_reached,
-    live_keep_bytes, log_grows, new_is_untold, one_for_one_where_reached, open_after, serials_rise,
-    taken_is_queued, untaken_is_bounded,
+    active_is_joined, all_queued_where_reached, closing_is_open, few_are_open, goes_on,
+    held_where_reached, live_keep_bytes, log_grows, new_is_untold, one_for_one_where_reached,
+    open_after, serials_rise, taken_is_queued, untaken_is_bounded,
 };
