@@ -6,17 +6,21 @@ use Rattle.std.proofs.Common.{arith}
 use Rattle.machine.specs.Connections.{Connection, has_serial, is_live}
 use Rattle.machine.specs.States.{State}
 use Rattle.machine.specs.Screens.{lives}
+use Rattle.machine.specs.Targets.{Client, same_target}
 use Rattle.machine.specs.Happenings as machine
-use Rattle.machine.specs.Steps.{step}
+use Rattle.machine.specs.Happenings.{IsOpen}
+use Rattle.machine.specs.Steps.{step, close}
 use Rattle.machine.specs.Acceptance.{accept}
 use Rattle.reached_states.specs.NewSerials.{IsNewSerial}
 use Rattle.reached_states.proofs.NewSerials.{new-is-untold}
-use Rattle.engine_loop.specs.Engines.{Steps}
+use Rattle.reached_states.proofs.OpenAfter.{closing-is-open}
+use Rattle.reached_states.proofs.ActiveScreens.{active-is-joined}
+use Rattle.engine_loop.specs.Engines.{Steps, ClosesParting}
 use Rattle.server_core.specs.declared.server.ServerCore.{ServerCore}
 use Rattle.server_core.specs.Accepting.{AllBelow, IsNew}
-use Rattle.server_core.specs.Driving.{serves}
+use Rattle.server_core.specs.Driving.{serves, departs}
 use Rattle.server_core.specs.Leading.{Leads}
-use Rattle.server_core.specs.Serving.{Serves}
+use Rattle.server_core.specs.Serving.{Serves, Departs}
 use Rattle.server_core.specs.Targets.{IsThere}
 use Rattle.server_core.specs.Standing.{Beside, Stands, IsBlank}
 use Rattle.server_core.proofs.Besides.{only_live, stands-only, only-blank, rests-only}
@@ -55,3 +59,11 @@ steps-joined old new n accepts = λ o latest front s reached allowed h.
       rests = rests-only s h.beside (λ m e. h.rests m);
       stands = accepts (only_live s h.beside) s (only-blank s h.beside n off) fresh (stands-only (λ t. IsThere t t.active) h.beside old s h.stands);
     }
+
+-- ---- closings
+
+pub closes-serving : (old new : ServerCore) (n : ℕ) → ((front : List ℕ) (s : State) → IsOpen s n → same_target s.active (Client n) ≡ false → Serves front old s → Serves front new (close n s)) → ClosesParting serves old new n
+closes-serving old new n closes = λ o latest front s reached e h. closes front s (closing-is-open s n e) ((active-is-joined o latest s reached).closing_other n e) h
+
+pub closes-departing : (old new : ServerCore) (n : ℕ) → ((front : List ℕ) (s : State) → IsOpen s n → Departs front old s → Departs front new (close n s)) → Steps departs old new (machine.Closed n)
+closes-departing old new n closes = λ o latest front s reached allowed h. closes front s allowed h

@@ -58,7 +58,7 @@ impl Engine for ServerCore {
         ensures serves { OnOk result (ClosesParting serves self.old self.new serial) }
         ensures departs { OnOk result (Steps departs self.old self.new (Closed serial)) }
     {
-        self.close_one(serial)?;
+        self.close(serial)?;
         Ok(())
     }
 

@@ -3,14 +3,13 @@
 ghost use Rattle.std.specs.Prelude.{◌≡◌, ◌+◌, ◌≤◌, ◌^◌, ℕ, List, length, nat_lt, OnOk};
 ghost use Rattle.machine.specs.States.{State};
 ghost use Rattle.machine.specs.Screens.{change};
-ghost use Rattle.machine.specs.Happenings.{Closed};
 ghost use Rattle.machine.specs.Steps as steps;
-ghost use Rattle.engine_loop.specs.Engines.{meaning, Steps, ClosesParting};
-ghost use Rattle.server_core.specs.Leading.{Leads, Reads};
+ghost use Rattle.engine_loop.specs.Engines.{meaning, Steps};
+ghost use Rattle.server_core.specs.Leading.{Leads};
 ghost use Rattle.server_core.specs.Serving.{Serves};
 ghost use Rattle.server_core.specs.Receiving.{given_by};
 ghost use Rattle.server_core.specs.Taking.{queued_in};
-ghost use Rattle.server_core.specs.Driving.{serves, departs, closes_active};
+ghost use Rattle.server_core.specs.Driving.{serves};
 
 use crate::server::ServerCore;
 use crate::timers::Timer;
@@ -85,29 +84,6 @@ impl ServerCore {
     {
         self.table.assure_room(serial);
         self.takes(serial, count);
-    }
-
-    // Closes a connection.
-    pub(crate) fn close_one(&mut self, serial: u64) -> Result<(), OutOfMemory>
-        ensures serves { OnOk result (ClosesParting serves self.old self.new serial) }
-        ensures departs { OnOk result (Steps departs self.old self.new (Closed serial)) }
-    {
-        if self.closes_active(serial) {
-            return Err(OutOfMemory);
-        }
-        self.close(serial)?;
-        Ok(())
-    }
-
-    // Tells whether the connection of that serial is to be closed now, though it is the active one.
-    // It never is: one that parts loses its screen.
-    fn closes_active(&self, serial: u64) -> bool
-        ensures { Reads self.now result (closes_active serial) }
-    {
-        match self.first_closing() {
-            Some(first) => first == serial && self.is_active(serial),
-            None => false,
-        }
     }
 
     // The clock goes on to a moment. What it brings comes in the machine's order, and then lines of
