@@ -1,13 +1,19 @@
 -- What holds in each state that a server may be in, holds in those that it serves.
-use Rattle.std.specs.Prelude.{◌≡◌, refl, ℕ, List, [], ◌++◌}
+use Rattle.std.specs.Prelude.{◌≡◌, refl, ℕ, true, is_some, List, [], ◌++◌, Option, Some, None}
+use Rattle.std.specs.Option.{option_map_or}
 use Rattle.std.proofs.Common.{sym, ap, ◌∙◌}
 use Rattle.std.proofs.lemmas.List.{append-nil}
+use Rattle.machine.specs.Connections.{Connection}
 use Rattle.machine.specs.States.{State}
+use Rattle.machine.specs.Screens.{connection}
+use Rattle.machine.specs.Queues.{total}
+use Rattle.machine.specs.Happenings.{IsOpen}
 use Rattle.machine.specs.Logs.{log_text}
 use Rattle.engine_loop.specs.Engines as engine
 use Rattle.server_core.specs.declared.server.ServerCore.{ServerCore}
 use Rattle.server_core.specs.Standing.{Beside, StandsWhere, Stands, Leaves}
 use Rattle.server_core.specs.Serving.{Serves, Departs}
+use Rattle.server_core.specs.Taking.{queued_for}
 use Rattle.server_core.specs.Leading.{Leads, Reads}
 use Rattle.server_core.specs.Driving.{serves, departs}
 
@@ -83,3 +89,12 @@ leaves-from b core s h = record {
 
 pub departing : (core : ServerCore) (front : List ℕ) (s : State) → serves core front s → departs core front s
 departing core front s h = record { beside = h.beside; front_is = h.front_is; rests = h.rests; leaves = leaves-from h.beside core s h.stands }
+
+-- ---- how much was queued
+
+pub open-total : (s : State) (n : ℕ) → IsOpen s n → queued_for s n ≡ total s.routed n
+open-total s n h = by (connection s n) h
+  where
+    by : (o : Option Connection) → is_some o ≡ true → option_map_or (λ (c : Connection). total s.routed n) o 0 ≡ total s.routed n
+    by None h = absurd (let x : ⊥ = cc in x)
+    by (Some c) h = refl
