@@ -1,5 +1,5 @@
 use Rattle.std.specs.Prelude.{refl}
-use Rattle.std.proofs.Common.{subst}
+use Rattle.std.proofs.Common.{◌∙◌, subst}
 use Rattle.machine.specs.Targets.{Client, Own}
 use Rattle.machine.specs.Connections.{changed}
 use Rattle.machine.specs.Screens.{change}
@@ -13,8 +13,8 @@ use Rattle.server_core.proofs.server.ServerCore.beat.Goals as goal
 
 pub returns : goal.returns
 returns c = λ b s there h.
-    let all = are-beaten (around b s) c.args.serial c.args.self.now.at c.args.self.now.table c.beat.new.self s.connections h.connections c.beat.ensures in
+    let all = are-beaten (around b s) c.args.serial c.moment-now.result c.args.self.now.table c.beat.new.self s.connections h.connections c.beat.ensures in
     c.in_ok-route.ensures Own b (change c.args.serial (sent_beat s.at) s)
     (changed-open c.args.serial (sent_beat s.at) (λ d. refl) s.connections (Client c.args.serial) there)
     (stands-changed b c.args.self.now s c.beat.new.self c.args.serial (sent_beat s.at) (λ d. refl) h
-    (subst (λ n. AreFor (around b s) c.beat.new.self (changed c.args.serial (sent_beat n) s.connections)) h.at all))
+    (subst (λ n. AreFor (around b s) c.beat.new.self (changed c.args.serial (sent_beat n) s.connections)) (c.moment-now.ensures.moment ∙ h.at) all))
