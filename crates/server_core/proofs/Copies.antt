@@ -1,5 +1,5 @@
 -- A copy of the script that is kept first and then told of.
-use Rattle.std.specs.Prelude.{◌≡◌, refl, ℕ, Bool, true, false, ◌&&◌, List, [], ◌∷◌, if◌then◌else◌}
+use Rattle.std.specs.Prelude.{◌≡◌, refl, ℕ, Bool, true, false, not, ◌&&◌, List, [], ◌∷◌, if◌then◌else◌}
 use Rattle.std.proofs.Common.{sym, ap, ◌∙◌, subst}
 use Rattle.share_base.specs.Screens.{has}
 use Rattle.share_base.specs.declared.clip_id.ClipId.{ClipId}
@@ -36,6 +36,10 @@ same_screens ts m s = for_each-keeps (λ t. joined_screens t ≡ joined_screens 
 
 published : (id : ClipId) (bytes : List ℕ) (s : State) → refresh id (route_all Own (joined_clients s) (msg.Grab id 0) (kept id bytes s)) ≡ publish id bytes s
 published id bytes s = ap (refresh id) (set_told id (rules.known s.primary s.sequence bytes (joined_screens s)) (joined_clients s) (msg.Grab id 0) s ∙ ap (λ ns. set_clip id (rules.known s.primary s.sequence bytes ns) (route_all Own (joined_clients s) (msg.Grab id 0) s)) (sym (same_screens (joined_clients s) (msg.Grab id 0) s)))
+
+pub sure : (b : Bool) → not b ≡ false → b ≡ true
+sure true e = refl
+sure false e = sym e
 
 -- a copy that counts
 pub copy-kept : (core : ServerCore) (id : ClipId) (bytes : List ℕ) (set : ℕ) (book : ClipBook) (counts : Bool) → counts ≡ rules.copy_counts core.clips.limit bytes → counts ≡ true → ((n : ℕ) → Reads core (has set n) (λ s. is_screen_joined s n)) → books.FollowsWith set core.clips book (Copied id bytes core.sequence) → Leads core (record core { clips = book }) (kept id bytes)

@@ -60,5 +60,5 @@ byes-more old now new n so_far leads = λ b s h.
 
 pub byes-all : (old now : ServerCore) (n : ℕ) → n ≡ length old.table → Leads old now (byes n) → Leads old now quit
 byes-all old now n e so_far = λ b s h.
-    let many : length (serials s.connections) ≡ n = length-map (λ (c : Connection). c.serial) s.connections ∙ (sym (pairs-length (StandsFor (around b s)) 0 old.table s.connections h.connections) ∙ sym e) in
+    let many : length (serials s.connections) ≡ n = length-map s.connections (λ (c : Connection). c.serial) ∙ (sym (pairs-length (StandsFor (around b s)) 0 old.table s.connections h.connections) ∙ sym e) in
     subst (λ ns. Stands b now (for_each ns say_bye (record s { has_quit = true }))) (take_all n (serials s.connections) (omega (arith, many))) (so_far b s h)

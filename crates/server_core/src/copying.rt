@@ -1,6 +1,6 @@
 //! What goes to all joined screens: copies of the script, and the screen saver.
 
-ghost use Rattle.std.specs.Prelude.{◌≤◌, length, OnOk};
+ghost use Rattle.std.specs.Prelude.{◌≡◌, ◌≤◌, length, OnOk, if◌then◌else◌};
 ghost use Rattle.message_codec.specs.Spelling.{body_of};
 ghost use Rattle.wire_frames.specs.declared.limits.TheConstants.{BODY_LIMIT};
 ghost use Rattle.machine.specs.Targets.{Own};
@@ -15,6 +15,13 @@ use crate::server::ServerCore;
 use crate::target::Target;
 use message_codec::Msg;
 use share_base::{ClipId, OutOfMemory};
+
+// 1 where the screen saver begins, 0 where it ends.
+fn marked(on: bool) -> u8
+    ensures { result ≡ if on then 1 else 0 }
+{
+    if on { 1 } else { 0 }
+}
 
 impl ServerCore {
     /// The script copies bytes to a clipboard. Where clipboards are shared and there aren't too many
@@ -44,7 +51,7 @@ impl ServerCore {
         if !self.config.globals().screen_saver_sync {
             return Ok(());
         }
-        let message = Msg::Saver { on: on as u8 };
+        let message = Msg::Saver { on: marked(on) };
         self.route(Target::Primary, &message)?;
         self.tell_joined(&message)?;
         Ok(())

@@ -12,7 +12,7 @@ use Rattle.server_core.proofs.server.ServerCore.press.Goals as goal
 pub returns : goal.returns
 returns c = λ number b s h.
     subst (λ (r : Option RuleNo). Stands b c.act_all.new.self (go number (on_press s r (One s.active c.args.message.now)) s)) (sym c.in-Some.is)
-    (subst (λ (xs : List Action). Stands b c.act_all.new.self (act_all (OfAction number) xs s)) (c.as_slice.ensures ∙ c.in_ok-list.ensures b s h) (c.in_ok-act_all.ensures (OfAction number) b s h))
+    (subst (λ (xs : List Action). Stands b c.act_all.new.self (act_all (OfAction number) xs s)) (c.as_slice.ensures.value ∙ c.in_ok-list.ensures b s h) (c.in_ok-act_all.ensures (OfAction number) b s h))
 
 pub returns-in_default : goal.returns-in_default
 returns-in_default c = λ number b s h. subst (λ (r : Option RuleNo). Stands b c.tell_active.new.self (go number (on_press s r (One s.active c.args.message.now)) s)) (sym c.in_default.is) (c.in_ok-tell_active.ensures (OfLine number) b s h)

@@ -10,10 +10,12 @@ use Rattle.machine.specs.Combining.{when}
 use Rattle.machine.specs.Screens.{joined_clients}
 use Rattle.machine.specs.Routing.{route, route_all}
 use Rattle.server_core.specs.Standing.{Stands}
+use Rattle.server_core.proofs.Copies.{sure}
 use Rattle.server_core.proofs.server.ServerCore.save.Goals as goal
 
 pub returns : goal.returns
 returns c = λ b s h.
-    let on : flag s.config.settings option.ScreenSaverSync ≡ true = sym (ap (λ (g : Globals). g.screen_saver_sync) c.globals.ensures.values ∙ ap (λ (f : Configuration). flag f.settings option.ScreenSaverSync) h.config) ∙ c.if-not-globals.false in
+    let on : flag s.config.settings option.ScreenSaverSync ≡ true = sym (ap (λ (g : Globals). g.screen_saver_sync) c.globals.ensures.values ∙ ap (λ (f : Configuration). flag f.settings option.ScreenSaverSync) h.config) ∙ sure c.globals.result.screen_saver_sync c.if-not-globals.false in
     subst (λ (t : Bool). Stands b c.tell_joined.new.self (when t (λ u. route_all Own (Primary ∷ joined_clients u) (msg.Saver (if c.args.on then 1 else 0)) u) s)) (sym on)
-    (c.in_ok-tell_joined.ensures b (route Own Primary (msg.Saver (if c.args.on then 1 else 0)) s) (c.in_ok-route.ensures Own b s tt h))
+    (subst (λ n. Stands b c.tell_joined.new.self (route_all Own (Primary ∷ joined_clients s) (msg.Saver n) s)) c.marked.ensures
+    (c.in_ok-tell_joined.ensures b (route Own Primary (msg.Saver c.marked.result) s) (c.in_ok-route.ensures Own b s tt h)))
