@@ -12,3 +12,4 @@ pub mod WriteFlags
 pub mod QuietSteps
 pub mod TakenAtWaits
 pub mod OpenTogether
+pub mod TakenOnQuit

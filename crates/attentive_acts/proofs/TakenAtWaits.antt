@@ -154,17 +154,17 @@ none_of_new o c j a before after above same h =
     let all : taken_by next c ≡ total next.routed c = omega arith in
     grind (arith, nat_tests, all, left)
 
-next_serial : (place : Place) (j : Judge) (n : ℕ) → AllowsAt place j (act.Accept (accepted.New n)) → n ≡ j.latest + 1
-next_serial Waits j n h = absurd h
-next_serial Asks j n h = absurd h
-next_serial (Accepts left) j n h = h.0
-next_serial (Reads []) j n h = absurd h
-next_serial (Reads (c ∷ rest)) j n h = absurd h
-next_serial (Writes []) j n h = absurd h
-next_serial (Writes (c ∷ rest)) j n h = absurd h
-next_serial Closes j n h = absurd h
-next_serial (Leaves []) j n h = absurd h
-next_serial (Leaves (c ∷ rest)) j n h = absurd h
+pub next-serial : (place : Place) (j : Judge) (n : ℕ) → AllowsAt place j (act.Accept (accepted.New n)) → n ≡ j.latest + 1
+next-serial Waits j n h = absurd h
+next-serial Asks j n h = absurd h
+next-serial (Accepts left) j n h = h.0
+next-serial (Reads []) j n h = absurd h
+next-serial (Reads (c ∷ rest)) j n h = absurd h
+next-serial (Writes []) j n h = absurd h
+next-serial (Writes (c ∷ rest)) j n h = absurd h
+next-serial Closes j n h = absurd h
+next-serial (Leaves []) j n h = absurd h
+next-serial (Leaves (c ∷ rest)) j n h = absurd h
 
 -- where its queue didn't grow
 unchanged : (o : Origin) (c : ℕ) (acts : List Act) (j : Judge) (a : Act) → j ≡ judged (first_judge (start_of o)) acts → AllowsAt j.place j a → IsReached o (judge_after j a) → total (state_after a j.state).routed c ≡ total j.state.routed c → Stands o c acts j → Next o c acts j a
@@ -173,7 +173,7 @@ unchanged o c acts j (act.Now t) is w after same k = kept o c acts j (act.Now t)
 unchanged o c acts j (act.Accept (accepted.New d)) is w after same k = at (d == c) refl
   where
     at : (b : Bool) → (d == c) ≡ b → Next o c acts j (act.Accept (accepted.New d))
-    at true e = λ h. absurd (none_of_new o c j (act.Accept (accepted.New d)) k.reached after (let mine : d ≡ c = is_that d c e in let next : d ≡ j.latest + 1 = next_serial j.place j d w in omega arith) same h)
+    at true e = λ h. absurd (none_of_new o c j (act.Accept (accepted.New d)) k.reached after (let mine : d ≡ c = is_that d c e in let next : d ≡ j.latest + 1 = next-serial j.place j d w in omega arith) same h)
     at false e = kept o c acts j (act.Accept (accepted.New d)) is refl refl (unmarked c (act.Accept (accepted.New d)) j refl) (quietly-joined c d j.state e) same k
 unchanged o c acts j (act.Read d room (read.Got n) bytes) is w after same k = kept o c acts j (act.Read d room (read.Got n) bytes) is refl refl (unmarked c (act.Read d room (read.Got n) bytes) j refl) (quietly-got c d bytes j.state) same k
 unchanged o c acts j (act.Read d room read.End bytes) is w after same k = kept o c acts j (act.Read d room read.End bytes) is refl refl (unmarked c (act.Read d room read.End bytes) j refl) (quietly-ended c d j.state) same k

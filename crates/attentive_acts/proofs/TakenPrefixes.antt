@@ -157,8 +157,8 @@ found_upto latest serial (d ∷ cs) c h e =
     by true is e upto later = grind (arith, nat_tests, is, upto)
     by false is e upto later = later e
 
-upto_latest : (latest serial : ℕ) (s : State) (c : Connection) → connection s serial ≡ Some c → On (BelowLatest latest) s → serial ≤ latest
-upto_latest latest serial s c e h = found_upto latest serial s.connections c h.connections e
+pub upto-latest : (latest serial : ℕ) (s : State) (c : Connection) → connection s serial ≡ Some c → On (BelowLatest latest) s → serial ≤ latest
+upto-latest latest serial s c e h = found_upto latest serial s.connections c h.connections e
 
 holds_took : (latest serial n : ℕ) (bytes : List ℕ) (s : State) (acts : List Act) → has_more s serial ≡ true → IsPiece s serial bytes → n ≤ length bytes → Holds latest s acts
     → Holds latest (step s (Took serial n)) (acts ++ act.Write serial bytes (written.Took n) ∷ [])
@@ -176,7 +176,7 @@ holds_took latest serial n bytes s acts more piece le h = record {
     so_far = count_of_taken s serial (length (taken_bytes serial acts)) here.0 here.1 (h.counted serial here.0 here.1)
 
     known_serial : serial ≤ latest
-    known_serial = upto_latest latest serial s here.0 here.1 h.known
+    known_serial = upto-latest latest serial s here.0 here.1 h.known
 
     nothing : (c : ℕ) (b : Bool) → (serial == c) ≡ b → latest < c → taken_bytes c acts ++ cond b (take n bytes) [] ≡ []
     nothing c true e above = absurd (let is : serial ≡ c = grind (arith, nat_tests, e) in let le = known_serial in omega arith)

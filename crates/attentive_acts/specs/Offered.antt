@@ -110,3 +110,18 @@ ClosedOnQuit =
     (config : Configuration) (script : Script) (now : ℕ) (acts : List Act)
     → AreAttentive config script now acts → list_all is_ready acts ≡ true → is_over (judge_of config script now acts).state ≡ true
     → (c : ℕ) → list_any (accepts_it c) acts ≡ true → WasClosedInTurn (first_judge (start config script now)) c acts
+
+-- it was closed in a turn as its bytes were dropped, or as its time was over
+pub record WasCutOff (first : Judge) (c : ℕ) (acts : List Act) : Type 0 where
+  pub closed : WasClosedInTurn first c acts
+  pub connection_is : Connection
+  pub found : connection (judged first closed.before).state c ≡ Some connection_is
+  pub cause : (connection_is.is_dropped ≡ true) ⊎ (is_time_over connection_is.phase (judged first closed.before).state ≡ true)
+
+-- there each that wasn't cut off has taken its whole queue
+abbrev pub AllTakenOnQuit : Type 0
+AllTakenOnQuit =
+    (config : Configuration) (script : Script) (now : ℕ) (acts : List Act)
+    → AreAttentive config script now acts → list_all is_ready acts ≡ true → is_over (judge_of config script now acts).state ≡ true
+    → (c : ℕ) → list_any (accepts_it c) acts ≡ true
+    → WasCutOff (first_judge (start config script now)) c acts ⊎ (taken_bytes c acts ≡ queue (judge_of config script now acts).state.routed c)

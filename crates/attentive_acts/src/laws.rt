@@ -1,7 +1,9 @@
 //! What holds of every list of attentive acts.
 
 ghost use Rattle.attentive_acts.specs.Laws.{ReadsTheLiving, WritesWhatIsQueued, TakenInOrder};
-ghost use Rattle.attentive_acts.specs.Offered.{AllTakenAtClosings, AllTakenAtWaits, ClosedOnQuit};
+ghost use Rattle.attentive_acts.specs.Offered.{
+    AllTakenAtClosings, AllTakenAtWaits, AllTakenOnQuit, ClosedOnQuit,
+};
 ghost use Rattle.attentive_acts.specs.OpenTogether.{OpenTogether};
 ghost use Rattle.attentive_acts.specs.ReachedActs.{AttentiveIsReached};
 
@@ -45,4 +47,10 @@ pub fn closed_on_quit()
 /// Each act opens and closes the same connections for the machine, for the flags and for the hub.
 pub fn open_together()
     ensures { OpenTogether }
+{}
+
+/// Where a run has quit, each connection that it accepted has taken its whole queue, but for those that
+/// were closed with their bytes dropped or as their closing time was over.
+pub fn all_taken_on_quit()
+    ensures { AllTakenOnQuit }
 {}

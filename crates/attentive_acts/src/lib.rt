@@ -10,6 +10,6 @@
 mod laws;
 
 pub use laws::{
-    all_taken_at_closings, all_taken_at_waits, attentive_is_reached, closed_on_quit, open_together,
-    reads_the_living, taken_in_order, writes_what_is_queued,
+    all_taken_at_closings, all_taken_at_waits, all_taken_on_quit, attentive_is_reached,
+    closed_on_quit, open_together, reads_the_living, taken_in_order, writes_what_is_queued,
 };
