@@ -15,9 +15,9 @@ use Rattle.server_core.specs.Standing.{Beside, StandsWhere, Stands, Leaves}
 use Rattle.server_core.specs.Serving.{Serves, Departs}
 use Rattle.server_core.specs.Taking.{queued_for}
 use Rattle.server_core.specs.Leading.{Leads, Reads}
-use Rattle.server_core.specs.Driving.{serves, departs}
+use Rattle.server_core.specs.Driving.{serves_in, departs_in}
 
-pub reads-served : {A : Type 0} (core : ServerCore) (answer : A) (f : State → A) → Reads core answer f → engine.Reads serves core answer f
+pub reads-served : {A : Type 0} (core : ServerCore) (answer : A) (f : State → A) → Reads core answer f → engine.Reads serves_in core answer f
 reads-served core answer f r = λ o latest front s reached h. r h.beside s h.stands
 
 pub leads-served : (old new : ServerCore) (rule : State → State) → Leads old new rule → (front : List ℕ) (s : State) → Serves front old s → Serves front new (rule s)
@@ -25,7 +25,7 @@ leads-served old new rule l = λ front s h. record { beside = h.beside; front_is
 
 -- ---- the log
 
-pub logs-departing : (core : ServerCore) (text : List ℕ) → text ≡ core.log → engine.Logs departs core text
+pub logs-departing : (core : ServerCore) (text : List ℕ) → text ≡ core.log → engine.Logs departs_in core text
 logs-departing core text e = λ o latest front s reached h. ap (λ f. f ++ text) (sym h.front_is) ∙ (ap (λ t. h.beside.front ++ t) e ∙ h.leaves.log)
 
 -- all of it was read
@@ -54,10 +54,10 @@ stands-cleared P b core s h = record {
   log = append-nil (log_text s);
 }
 
-pub serves-cleared : (core : ServerCore) → engine.ClearsLog serves core (record core { log = [] })
+pub serves-cleared : (core : ServerCore) → engine.ClearsLog serves_in core (record core { log = [] })
 serves-cleared core = λ o latest front s reached h. record { beside = record h.beside { front = log_text s }; front_is = refl; rests = h.rests; stands = stands-cleared _ h.beside core s h.stands }
 
-pub departs-cleared : (core : ServerCore) → engine.ClearsLog departs core (record core { log = [] })
+pub departs-cleared : (core : ServerCore) → engine.ClearsLog departs_in core (record core { log = [] })
 departs-cleared core = λ o latest front s reached h. record { beside = record h.beside { front = log_text s }; front_is = refl; rests = h.rests; leaves = stands-cleared _ h.beside core s h.leaves }
 
 -- ---- a run's end
@@ -87,8 +87,8 @@ leaves-from b core s h = record {
   log = h.log;
 }
 
-pub departing : (core : ServerCore) (front : List ℕ) (s : State) → serves core front s → departs core front s
-departing core front s h = record { beside = h.beside; front_is = h.front_is; rests = h.rests; leaves = leaves-from h.beside core s h.stands }
+pub departs-too : (core : ServerCore) (front : List ℕ) (s : State) → serves_in core front s → departs_in core front s
+departs-too core front s h = record { beside = h.beside; front_is = h.front_is; rests = h.rests; leaves = leaves-from h.beside core s h.stands }
 
 -- ---- how much was queued
 

@@ -18,7 +18,7 @@ use Rattle.server_core.specs.declared.server.ServerCore.{ServerCore}
 use Rattle.server_core.specs.Lines.{line_of}
 use Rattle.server_core.specs.Scripts.{script_of}
 use Rattle.server_core.specs.Serving.{Serves}
-use Rattle.server_core.specs.Driving.{serves}
+use Rattle.server_core.specs.Driving.{serves_in}
 use Rattle.server_core.specs.Promises.{IsStart, Runs, GoesOnRunning}
 
 -- ---- keys of a script
@@ -60,5 +60,5 @@ runs o latest front core s begins reached h =
       one_for_one = one-for-one-where-reached o reached.happenings latest s reached.by;
     }
 
-pub goes-on-running : (h : Happening) (old new : ServerCore) → Steps serves old new h → GoesOnRunning h old new
+pub goes-on-running : (h : Happening) (old new : ServerCore) → Steps serves_in old new h → GoesOnRunning h old new
 goes-on-running h old new steps = λ o latest front s r allowed. runs o _ front new _ r.begins (goes-on o latest s h r.reached allowed) (steps o latest front s r.reached allowed r.serves)

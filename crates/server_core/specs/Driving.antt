@@ -4,8 +4,8 @@ use Rattle.machine.specs.States.{State}
 use Rattle.server_core.specs.declared.server.ServerCore.{ServerCore}
 use Rattle.server_core.specs.Serving.{Serves, Departs}
 
-abbrev pub serves : ServerCore → List ℕ → State → Type 0
-serves core front s = Serves front core s
+abbrev pub serves_in : ServerCore → List ℕ → State → Type 0
+serves_in core front s = Serves front core s
 
-abbrev pub departs : ServerCore → List ℕ → State → Type 0
-departs core front s = Departs front core s
+abbrev pub departs_in : ServerCore → List ℕ → State → Type 0
+departs_in core front s = Departs front core s

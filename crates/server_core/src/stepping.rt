@@ -1,6 +1,6 @@
 //! What a happening leads to.
 
-ghost use Rattle.std.specs.Prelude.{◌≡◌, ◌+◌, ◌≤◌, ◌^◌, ℕ, List, length, nat_lt, OnOk};
+ghost use Rattle.std.specs.Prelude.{◌≡◌, ◌+◌, ◌≤◌, ◌^◌, ℕ, List, length, OnOk};
 ghost use Rattle.machine.specs.States.{State};
 ghost use Rattle.machine.specs.Screens.{change};
 ghost use Rattle.machine.specs.Steps as steps;
@@ -9,7 +9,7 @@ ghost use Rattle.server_core.specs.Leading.{Leads};
 ghost use Rattle.server_core.specs.Serving.{Serves};
 ghost use Rattle.server_core.specs.Receiving.{given_by};
 ghost use Rattle.server_core.specs.Taking.{queued_in};
-ghost use Rattle.server_core.specs.Driving.{serves};
+ghost use Rattle.server_core.specs.Driving.{serves_in};
 
 use crate::server::ServerCore;
 use crate::timers::Timer;
@@ -23,7 +23,7 @@ const GIVEN_LIMIT: u64 = 9_223_372_036_854_775_808;
 impl ServerCore {
     // Does what the machine does at that happening.
     pub(crate) fn happen(&mut self, happening: Happening<'_>) -> Result<(), OutOfMemory>
-        ensures { OnOk result (Steps serves self.old self.new (meaning happening.entry)) }
+        ensures { OnOk result (Steps serves_in self.old self.new (meaning happening.entry)) }
     {
         match happening {
             Happening::Joined(serial) => {
@@ -80,7 +80,8 @@ impl ServerCore {
     // Notes that a connection took so many of the bytes that it may take.
     pub(crate) fn take(&mut self, serial: u64, count: usize)
         requires { count ≤ length (queued_in self.old serial) }
-        ensures { Leads self.old self.new (change serial (steps.takes count)) }
+        ensures leads { Leads self.old self.new (change serial (steps.takes count)) }
+        ensures still { self.new.is_broken ≡ self.old.is_broken }
     {
         self.table.assure_room(serial);
         self.takes(serial, count);
