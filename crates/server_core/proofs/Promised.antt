@@ -10,7 +10,7 @@ use Rattle.machine.specs.States.{State}
 use Rattle.machine.specs.KeyButtons.{is_script_button, pressed_by_line}
 use Rattle.machine.specs.Happenings.{Happening}
 use Rattle.machine.specs.Held.{HasScriptButtons}
-use Rattle.reached_states.specs.Reaching.{Origin, Reached}
+use Rattle.reached_states.specs.Reaching.{Origin, start_of, Reached}
 use Rattle.reached_states.proofs.Reaching.{goes-on}
 use Rattle.reached_states.proofs.Promises.{held-where-reached, all-queued-where-reached, one-for-one-where-reached}
 use Rattle.engine_loop.specs.Engines.{Steps}
@@ -19,6 +19,7 @@ use Rattle.server_core.specs.Lines.{line_of}
 use Rattle.server_core.specs.Scripts.{script_of}
 use Rattle.server_core.specs.Serving.{Serves}
 use Rattle.server_core.specs.Driving.{serves_in}
+use Rattle.server_core.specs.Standing.{Stands, nothing_told}
 use Rattle.server_core.specs.Promises.{IsStart, Runs, GoesOnRunning}
 
 -- ---- keys of a script
@@ -62,3 +63,7 @@ runs o latest front core s begins reached h =
 
 pub goes-on-running : (h : Happening) (old new : ServerCore) → Steps serves_in old new h → GoesOnRunning h old new
 goes-on-running h old new steps = λ o latest front s r allowed. runs o _ front new _ r.begins (goes-on o latest s h r.reached allowed) (steps o latest front s r.reached allowed r.serves)
+
+-- at the start
+pub runs-first : (o : Origin) (core : ServerCore) → IsStart o → Stands nothing_told core (start_of o) → Runs o 0 [] core (start_of o)
+runs-first o core begins h = runs o 0 [] core (start_of o) begins (record { happenings = []; by = record { allowed = tt; state = refl; latest_is = refl } }) (record { beside = nothing_told; front_is = refl; rests = λ serial. (refl, refl); stands = h })

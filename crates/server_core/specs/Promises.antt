@@ -1,6 +1,8 @@
 -- A server in a state that was reached from its start, and what then holds of it.
 use Rattle.std.specs.Prelude.{ℕ, List}
+use Rattle.screen_config.specs.Configurations.{Configuration}
 use Rattle.screen_config.specs.Sound.{IsSound}
+use Rattle.script_screen.specs.Scripts.{ScriptText}
 use Rattle.machine.specs.States.{State}
 use Rattle.machine.specs.Happenings.{Happening, IsAllowed, latest_after}
 use Rattle.machine.specs.Steps.{step}
@@ -9,9 +11,14 @@ use Rattle.machine.specs.NothingLeftOut.{NothingIsLeftOut}
 use Rattle.machine.specs.OneForOne.{IsOneForOne, lines_run}
 use Rattle.reached_states.specs.Reaching.{Origin, start_of, Reached}
 use Rattle.server_core.specs.declared.server.ServerCore.{ServerCore}
+use Rattle.server_core.specs.Scripts.{script_of}
 use Rattle.server_core.specs.Serving.{Serves}
 
--- what a server is started on keeps its limits
+-- what a server is started on
+abbrev pub origin : Configuration → ScriptText → ℕ → Origin
+origin config script now = record { config = config; script = script_of script; now = now }
+
+-- it keeps its limits
 pub record IsStart (o : Origin) : Type 0 where
   pub config : IsSound o.config
   pub script : HasScriptButtons o.script
