@@ -41,6 +41,8 @@ mod stepping;
 mod switching;
 mod taking;
 mod target;
+#[cfg(test)]
+mod tests;
 mod timers;
 mod ways;
 
