@@ -11,7 +11,7 @@ use Rattle.machine.specs.Happenings.{IsOpen}
 use Rattle.machine.specs.Logs.{log_text}
 use Rattle.engine_loop.specs.Engines as engine
 use Rattle.server_core.specs.declared.server.ServerCore.{ServerCore}
-use Rattle.server_core.specs.Standing.{Beside, StandsWhere, Stands, Leaves}
+use Rattle.server_core.specs.Standing.{Beside, StandsWhere}
 use Rattle.server_core.specs.Serving.{Serves, Departs}
 use Rattle.server_core.specs.Taking.{queued_for}
 use Rattle.server_core.specs.Leading.{Leads, Reads}
@@ -59,36 +59,6 @@ serves-cleared core = λ o latest front s reached h. record { beside = record h.
 
 pub departs-cleared : (core : ServerCore) → engine.ClearsLog departs_in core (record core { log = [] })
 departs-cleared core = λ o latest front s reached h. record { beside = record h.beside { front = log_text s }; front_is = refl; rests = h.rests; leaves = stands-cleared _ h.beside core s h.leaves }
-
--- ---- a run's end
-
-leaves-from : (b : Beside) (core : ServerCore) (s : State) → Stands b core s → Leaves b core s
-leaves-from b core s h = record {
-  config = h.config;
-  primary = h.primary;
-  primary_shape = h.primary_shape;
-  lines = h.lines;
-  ran = h.ran;
-  sleeps_until = h.sleeps_until;
-  has_quit = h.has_quit;
-  at = h.at;
-  connections = h.connections;
-  active = h.active;
-  there = tt;
-  cursor = h.cursor;
-  sequence = h.sequence;
-  is_locked = h.is_locked;
-  gate = h.gate;
-  pressed = h.pressed;
-  clips = h.clips;
-  clips_of = h.clips_of;
-  clips_limit = h.clips_limit;
-  told = h.told;
-  log = h.log;
-}
-
-pub departs-too : (core : ServerCore) (front : List ℕ) (s : State) → serves_in core front s → departs_in core front s
-departs-too core front s h = record { beside = h.beside; front_is = h.front_is; rests = h.rests; leaves = leaves-from h.beside core s h.stands }
 
 -- ---- how much was queued
 

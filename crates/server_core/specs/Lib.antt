@@ -24,3 +24,4 @@ pub mod Using
 pub mod Accepting
 pub mod Joining
 pub mod Hearing
+pub mod Departing

@@ -7,7 +7,7 @@ ghost use Rattle.engine_loop.specs.Engines.{meaning, Steps, ClosesParting, Reads
 ghost use Rattle.server_core.specs.Driving.{serves_in, departs_in};
 ghost use Rattle.server_core.specs.Taking.{queued_in};
 ghost use Rattle.server_core.specs.Promises.{GoesOnRunning};
-ghost use Rattle.server_core.proofs.Driven.{departs-too};
+ghost use Rattle.server_core.specs.Departing.{departs_too};
 
 use crate::server::ServerCore;
 use engine_loop::{Engine, Happening};
@@ -17,7 +17,7 @@ impl Engine for ServerCore {
     ghost serves = { serves_in };
     ghost departs = { departs_in };
     ghost offered = { queued_in };
-    ghost departing = { departs-too };
+    ghost departing = { departs_too };
 
     /// Does what the machine does at that happening. A serial that joins is greater than all before,
     /// and every other one is that of an open connection. On `OutOfMemory`, which also comes where one
