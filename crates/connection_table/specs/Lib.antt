@@ -5,3 +5,4 @@ pub mod PartsTaken
 pub mod FirstOf
 pub mod Tables
 pub mod Standing
+pub mod Deadlines

@@ -73,6 +73,13 @@ impl Connection {
         &self.queue
     }
 
+    /// Returns how many bytes the reader of the connection was given.
+    pub fn given(&self) -> u64
+        ensures { result ≡ self.now.reader.total }
+    {
+        self.reader.total()
+    }
+
     /// Tells whether the connection isn't parting.
     pub fn is_live(&self) -> bool
         ensures { result ≡ not (is_parting (phase_of self.now.phase)) }

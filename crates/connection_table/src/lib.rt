@@ -6,6 +6,7 @@
 #![tactic(auto)]
 
 mod connection;
+mod deadlines;
 mod phase;
 mod reading;
 mod table;

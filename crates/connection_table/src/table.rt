@@ -84,6 +84,17 @@ impl Table {
         }
     }
 
+    /// Does nothing. Its contract says that fewer than 2^63 bytes are taken, whatever is taken of those
+    /// that are queued for the connection of that serial.
+    pub fn assure_room(&self, serial: u64)
+        ensures { IfSome (find (is_of serial) self.now)
+            (λ c. c.queue.taken + length c.queue.untaken < 2 ^ 63) }
+    {
+        if let Some(connection) = self.get(serial) {
+            connection.queue.assure_sound();
+        }
+    }
+
     // Returns the index of the connection of that serial.
     fn place_of(&self, serial: u64) -> Option<usize>
         ensures place { result ≡ position (is_of serial) self.now }

@@ -1,4 +1,0 @@
-pub mod WatchFlags
-pub mod Laws
-pub mod Totals
-pub mod MoreActs

@@ -1,4 +1,1 @@
 pub mod Engines
-pub mod Watches
-pub mod Stages
-pub mod Turns

@@ -5,17 +5,8 @@
 //! act is due, by the machine's definitions: no frame, no message, and not how an engine works.
 #![tactic(auto)]
 
-mod accepting;
-mod closing;
 mod engine;
 mod happening;
-mod reading;
-mod serve_end;
-mod turns;
-mod waiting;
-mod watch;
-mod writing;
 
 pub use engine::Engine;
 pub use happening::Happening;
-pub use serve_end::ServeEnd;

@@ -132,6 +132,13 @@ impl MessageReader {
         }
     }
 
+    /// Returns how many bytes were fed.
+    pub fn total(&self) -> u64
+        ensures { result ≡ self.now.total }
+    {
+        self.total
+    }
+
     /// Returns the offset of the first byte that is part of no message given: after `More`, that of
     /// a partly received frame. `None` if there is no such byte, and after a bad frame.
     pub fn pending(&self) -> Option<u64>

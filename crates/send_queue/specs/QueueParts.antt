@@ -13,4 +13,4 @@ pub record QueueParts : Type 0 where
 pub record AreSound (untaken taken total : ℕ) : Type 0 where
   pub apart : taken + untaken ≤ total
   pub few : total ≤ taken + most_untaken
-  pub small : taken < 2 ^ 63
+  pub small : total < 2 ^ 63

@@ -3,6 +3,7 @@
 ghost use Rattle.std.specs.Prelude.{◌≡◌, ◌≤◌, ◌<◌, ◌+◌, ◌^◌, false, length, IfOk, OnErr};
 ghost use Rattle.message_codec.specs.Spelling.{body_of};
 ghost use Rattle.wire_frames.specs.declared.limits.TheConstants.{BODY_LIMIT};
+ghost use Rattle.send_queue.specs.QueueParts.{AreSound};
 ghost use Rattle.send_queue.specs.Standing.{Begins, IsLeft};
 ghost use Rattle.send_queue.specs.Calls.{has_room, Pushes, Takes, Discards};
 
@@ -16,6 +17,9 @@ use std::marker::Model;
 
 /// How many bytes of a queue may be untaken.
 pub const MOST_UNTAKEN: u64 = 16_777_216;
+
+/// Fewer bytes than these, 2^63, are queued for a connection in all.
+const TOTAL_LIMIT: u64 = 9_223_372_036_854_775_808;
 
 /// The frames that are queued for one connection, as bytes. A frame that would bring the untaken
 /// bytes above `MOST_UNTAKEN` is left out, and so is every later one.
@@ -64,7 +68,8 @@ impl SendQueue {
     }
 
     /// Queues a message, whose body has at most `BODY_LIMIT` bytes, or leaves its frame out where
-    /// it has no room or an earlier one had none. On `OutOfMemory` the queue is unchanged.
+    /// it has no room or an earlier one had none. On `OutOfMemory`, which also comes where 2^63 bytes
+    /// would have been queued in all, the queue is unchanged.
     pub fn push(&mut self, msg: &Msg) -> Result<Pushed, OutOfMemory>
         requires { length (body_of msg.now) ≤ BODY_LIMIT }
         ensures ok { IfOk result (λ pushed. Pushes self.old self.new msg.now pushed) }
@@ -74,6 +79,9 @@ impl SendQueue {
         if !self.has_room(size) {
             self.is_slow = true;
             return Ok(Pushed::LeftOut);
+        }
+        if self.total + size >= TOTAL_LIMIT {
+            return Err(OutOfMemory);
         }
         if !self.is_discarded {
             append_frame(&mut self.untaken, &mut self.body, msg)?;
@@ -122,6 +130,13 @@ impl SendQueue {
         ensures { IsLeft self.now result }
     {
         !self.untaken.is_empty()
+    }
+
+    /// Assures what holds of the numbers of every queue. It does nothing.
+    pub fn assure_sound(&self)
+        ensures { AreSound (length self.now.untaken) self.now.taken self.now.total }
+    {
+        let _total = self.total;
     }
 
     /// Returns how many bytes were ever queued.

@@ -9,11 +9,11 @@ use Rattle.machine.specs.Targets.{Client}
 use Rattle.machine.specs.States.{State}
 use Rattle.machine.specs.Combining.{when, for_some, unchanged}
 use Rattle.machine.specs.Screens.{lives}
-use Rattle.machine.specs.Partings.{say_farewell, marked, lose, parted, screen_joined, part}
+use Rattle.machine.specs.Partings.{parted, say_farewell, marked, lose, screen_joined, part}
 use Rattle.machine.specs.Slow.{part_slow}
 use Rattle.machine.specs.Steps.{drops, judge}
 use Rattle.machine.proofs.Rules.{for_some-keeps}
-use Rattle.machine.proofs.Live.{IsLive, changed-live, parted-tame, drops-tame, lives-live}
+use Rattle.machine.proofs.Live.{IsLive, changed-live, lives-live, parted-tame, drops-tame}
 use Rattle.machine.proofs.Invariant.{View, On, IsInvariant}
 use Rattle.machine.proofs.AnyButton.{any, any_origin, rules-any, lines-any}
 use Rattle.machine.proofs.KeepPartings.{marked-off, lose-keeps, part_slow-keeps}

@@ -17,6 +17,10 @@ pub mod Loops
 pub mod SlowTurns
 pub mod Passed
 pub mod JoinedScreens
+pub mod Timed
+pub mod DueOnes
+pub mod Come
+pub mod Steady
 pub mod Besides
 pub mod Gone
 pub mod Received
@@ -24,6 +28,18 @@ pub mod Taken
 pub mod Closed
 pub mod Judged
 pub mod Indexed
+pub mod JoinedScreens
+pub mod Indexed
+pub mod ScriptLines
+pub mod ScriptTurns
+pub mod Goodbyes
+pub mod ToldJoined
+pub mod Copies
+pub mod NextLine
+pub mod Sleeping
+pub mod Passed
+pub mod Promised
+pub mod Driven
 pub mod Known
 pub mod Added
 pub mod Admitted
@@ -39,5 +55,7 @@ pub mod ToldJoined
 pub mod Copies
 pub mod NextLine
 pub mod Sleeping
+pub mod Happened
+pub mod Offering
 pub mod ActedAll
 pub mod Same

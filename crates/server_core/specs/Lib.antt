@@ -10,8 +10,15 @@ pub mod Shapes
 pub mod Sending
 pub mod HandingOut
 pub mod SlowOnes
+pub mod Timing
+pub mod DueMoments
+pub mod Telling
+pub mod NextLine
+pub mod Goodbyes
 pub mod Around
 pub mod Passing
+pub mod Driving
+pub mod Promises
 pub mod Others
 pub mod Using
 pub mod Accepting
@@ -20,3 +27,4 @@ pub mod Hearing
 pub mod Telling
 pub mod NextLine
 pub mod Goodbyes
+pub mod Departing

@@ -19,6 +19,7 @@ impl ServerCore {
         ensures serves { OnOk result ((front : List ℕ) (s : State) → IsOpen s serial
             → same_target s.active (Client serial) ≡ false
             → Serves front self.old s → Serves front self.new (steps.close serial s)) }
+        ensures still { self.new.is_broken ≡ self.old.is_broken }
     {
         let Some(connection) = self.table.get(serial) else {
             return Ok(());

@@ -7,6 +7,7 @@ ghost use Rattle.machine.specs.Acceptance as acceptance;
 ghost use Rattle.machine.specs.Acceptance.{start};
 ghost use Rattle.server_core.specs.Scripts.{script_of};
 ghost use Rattle.server_core.specs.Standing.{Stands, nothing_told};
+ghost use Rattle.server_core.specs.Promises.{IsStart, origin};
 
 use crate::clock::Clock;
 use crate::cursor::Cursor;
@@ -44,9 +45,13 @@ impl ServerCore {
     /// is active, with the cursor at its middle, and nothing is down.
     pub fn new(config: Config, script: Script, now: u64) -> Result<ServerCore, OutOfMemory>
         requires { ScreensBelow (length config.screens) script }
-        ensures { IfOk result (λ core. Stands nothing_told core (start config (script_of script) now)) }
+        ensures stands { IfOk result
+            (λ core. Stands nothing_told core (start config (script_of script) now)) }
+        ensures starts { IfOk result (λ core. IsStart (origin config script now)) }
     {
         config.assure_sound();
+        let width = script.w();
+        let _ = width;
         let _count = config.count();
         let alloc = config.alloc();
         let shape = first_shape(&script);

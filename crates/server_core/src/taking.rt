@@ -25,7 +25,8 @@ impl ServerCore {
     pub fn takes(&mut self, serial: u64, count: usize)
         requires there { count ≤ length (queued_in self.old serial) }
         requires fits { taken_in self.old serial + count < 2 ^ 63 }
-        ensures { Leads self.old self.new (change serial (steps.takes count)) }
+        ensures leads { Leads self.old self.new (change serial (steps.takes count)) }
+        ensures still { self.new.is_broken ≡ self.old.is_broken }
     {
         self.table.take(serial, count);
     }

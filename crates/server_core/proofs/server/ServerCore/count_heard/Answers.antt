@@ -1,5 +1,5 @@
 use Rattle.std.specs.Prelude.{refl, ℕ}
-use Rattle.std.proofs.Common.{subst, ◌∙◌}
+use Rattle.std.proofs.Common.{◌∙◌, subst}
 use Rattle.machine.specs.Connections.{changed}
 use Rattle.machine.specs.Hearing.{was_heard}
 use Rattle.connection_table.specs.Standing.{AreFor}

@@ -13,10 +13,11 @@ use Rattle.screen_crossing.specs.Points.{point_of}
 use Rattle.server_core.specs.Lines.{line_of}
 use Rattle.server_core.specs.Scripts.{script_of}
 use Rattle.server_core.specs.Standing.{nothing_told, around}
+use Rattle.server_core.proofs.Promised.{has-script-buttons}
 use Rattle.server_core.proofs.server.ServerCore.new.Goals as goal
 
-pub returns : goal.returns
-returns c =
+pub returns-clause-stands : goal.returns-clause-stands
+returns-clause-stands c =
     let shape = c.first_shape-shape.ensures.shape in
     let of : c.primary-screen.result.0 ≡ c.args.script.primary.screen.0 = ap (λ (n : ScreenNo). n.0) c.primary-screen.ensures in
     record {
@@ -42,3 +43,6 @@ returns c =
       told = c.new-primary.ensures;
       log = c.new-log.ensures;
     }
+
+pub returns-clause-starts : goal.returns-clause-starts
+returns-clause-starts c = record { config = c.assure_sound.ensures; script = has-script-buttons c.args.script c.w-width.ensures.sound }

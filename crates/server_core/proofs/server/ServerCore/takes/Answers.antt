@@ -12,5 +12,5 @@ take-requires-clause-there c = may-take c.args.self.now c.args.serial c.args.cou
 pub take-requires-clause-fits : goal.take-requires-clause-fits
 take-requires-clause-fits c = take-fits c.args.self.now c.args.serial c.args.count (2 ^ 63) c.requires.fits
 
-pub returns : goal.returns
-returns c = λ b s h. stands-changed b c.args.self.now s c.take.new.self c.args.serial (takes c.args.count) (λ d. refl) h (are-taken (around b s) c.args.serial c.args.count c.args.self.now.table c.take.new.self s.connections h.connections c.take.ensures)
+pub returns-clause-leads : goal.returns-clause-leads
+returns-clause-leads c = λ b s h. stands-changed b c.args.self.now s c.take.new.self c.args.serial (takes c.args.count) (λ d. refl) h (are-taken (around b s) c.args.serial c.args.count c.args.self.now.table c.take.new.self s.connections h.connections c.take.ensures)

@@ -1,0 +1,69 @@
+-- What holds of a server that was started, and that goes on.
+use Rattle.std.specs.Prelude.{◌≡◌, refl, ℕ, Bool, true, false, ◌&&◌, List, [], ◌∷◌, map}
+use Rattle.std.specs.List.{list_all}
+use Rattle.std.proofs.Common.{arith, sym, ap, ◌∙◌, subst}
+use Rattle.std.proofs.lemmas.Bool.Decides.{nat_tests}
+use Rattle.script_screen.specs.declared.script.ScriptLine.{ScriptLine}
+use Rattle.script_screen.specs.declared.script.ScriptLine.TheVariants as text
+use Rattle.script_screen.specs.Scripts.{ScriptText, IsScript, IsScriptLine, AreScriptLines}
+use Rattle.machine.specs.States.{State}
+use Rattle.machine.specs.KeyButtons.{is_script_button, pressed_by_line}
+use Rattle.machine.specs.Happenings.{Happening}
+use Rattle.machine.specs.Held.{HasScriptButtons}
+use Rattle.reached_states.specs.Reaching.{Origin, start_of, Reached}
+use Rattle.reached_states.proofs.Reaching.{goes-on}
+use Rattle.reached_states.proofs.Promises.{held-where-reached, all-queued-where-reached, one-for-one-where-reached}
+use Rattle.engine_loop.specs.Engines.{Steps}
+use Rattle.server_core.specs.declared.server.ServerCore.{ServerCore}
+use Rattle.server_core.specs.Lines.{line_of}
+use Rattle.server_core.specs.Scripts.{script_of}
+use Rattle.server_core.specs.Serving.{Serves}
+use Rattle.server_core.specs.Driving.{serves_in}
+use Rattle.server_core.specs.Standing.{Stands, nothing_told}
+use Rattle.server_core.specs.Promises.{IsStart, Runs, GoesOnRunning}
+
+-- ---- keys of a script
+
+line_buttons : (l : ScriptLine) → IsScriptLine l → pressed_by_line is_script_button (line_of l) ≡ true
+line_buttons (text.Sleep ms) h = refl
+line_buttons (text.Await screen) h = refl
+line_buttons (text.KeyDown id button) h = grind (arith, nat_tests, h.1.0, h.1.1)
+line_buttons (text.KeyRepeat count button) h = refl
+line_buttons (text.KeyUp button) h = refl
+line_buttons (text.ButtonDown b) h = refl
+line_buttons (text.ButtonUp b) h = refl
+line_buttons (text.Motion dx dy) h = refl
+line_buttons (text.Wheel x y) h = refl
+line_buttons (text.Saver on) h = refl
+line_buttons (text.Copy clip bytes) h = refl
+line_buttons text.Quit h = refl
+
+all_buttons : (above ls : List ScriptLine) → AreScriptLines above ls → list_all (pressed_by_line is_script_button) (map line_of ls) ≡ true
+all_buttons above [] h = refl
+all_buttons above (l ∷ ls) h = both (line_buttons l h.0) (all_buttons _ ls h.1.1)
+  where
+    both : pressed_by_line is_script_button (line_of l) ≡ true → list_all (pressed_by_line is_script_button) (map line_of ls) ≡ true → (pressed_by_line is_script_button (line_of l) && list_all (pressed_by_line is_script_button) (map line_of ls)) ≡ true
+    both one rest = ap (λ b. b && list_all (pressed_by_line is_script_button) (map line_of ls)) one ∙ rest
+
+pub has-script-buttons : (script : ScriptText) → IsScript script → HasScriptButtons (script_of script)
+has-script-buttons script h = all_buttons [] script.lines h.lines
+
+-- ---- the laws
+
+pub runs : (o : Origin) (latest : ℕ) (front : List ℕ) (core : ServerCore) (s : State) → IsStart o → Reached o latest s → Serves front core s → Runs o latest front core s
+runs o latest front core s begins reached h =
+    record {
+      begins = begins;
+      reached = reached;
+      serves = h;
+      held = held-where-reached o latest s reached begins.config begins.script;
+      left_out = all-queued-where-reached o latest s reached;
+      one_for_one = one-for-one-where-reached o reached.happenings latest s reached.by;
+    }
+
+pub goes-on-running : (h : Happening) (old new : ServerCore) → Steps serves_in old new h → GoesOnRunning h old new
+goes-on-running h old new steps = λ o latest front s r allowed. runs o _ front new _ r.begins (goes-on o latest s h r.reached allowed) (steps o latest front s r.reached allowed r.serves)
+
+-- at the start
+pub runs-first : (o : Origin) (core : ServerCore) → IsStart o → Stands nothing_told core (start_of o) → Runs o 0 [] core (start_of o)
+runs-first o core begins h = runs o 0 [] core (start_of o) begins (record { happenings = []; by = record { allowed = tt; state = refl; latest_is = refl } }) (record { beside = nothing_told; front_is = refl; rests = λ serial. (refl, refl); stands = h })
