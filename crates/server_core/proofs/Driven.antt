@@ -9,7 +9,7 @@ use Rattle.machine.specs.Screens.{connection}
 use Rattle.machine.specs.Queues.{total}
 use Rattle.machine.specs.Happenings.{IsOpen}
 use Rattle.machine.specs.Logs.{log_text}
-use Rattle.engine_loop.specs.Engines as engine
+use Rattle.server_engine.specs.Engines as engine
 use Rattle.server_core.specs.declared.server.ServerCore.{ServerCore}
 use Rattle.server_core.specs.Standing.{Beside, StandsWhere}
 use Rattle.server_core.specs.Serving.{Serves, Departs}

@@ -17,7 +17,7 @@ use Rattle.reached_states.proofs.OpenAfter.{closing-is-open}
 use Rattle.reached_states.proofs.ActiveScreens.{active-is-joined}
 use Rattle.connection_table.specs.declared.connection.Connection as kept
 use Rattle.connection_table.specs.Tables.{is_of}
-use Rattle.engine_loop.specs.Engines.{Steps, ClosesParting}
+use Rattle.server_engine.specs.Engines.{Steps, ClosesParting}
 use Rattle.server_core.specs.declared.server.ServerCore.{ServerCore}
 use Rattle.server_core.specs.Accepting.{AllBelow, IsNew}
 use Rattle.server_core.specs.Driving.{serves_in, departs_in}

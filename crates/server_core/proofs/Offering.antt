@@ -14,7 +14,7 @@ use Rattle.machine.proofs.GrowingQueues.{queue-length}
 use Rattle.send_queue.specs.Standing.{rest_of}
 use Rattle.attentive_acts.specs.Flags.{has_more}
 use Rattle.attentive_acts.specs.Judging.{untaken}
-use Rattle.engine_loop.specs.Engines.{AreNext}
+use Rattle.server_engine.specs.Engines.{AreNext}
 use Rattle.server_core.specs.Taking.{untaken_by}
 
 equal : (m n : ℕ) → (m == n) ≡ true → m ≡ n

@@ -13,7 +13,7 @@ use Rattle.machine.specs.Held.{HasScriptButtons}
 use Rattle.reached_states.specs.Reaching.{Origin, start_of, Reached}
 use Rattle.reached_states.proofs.Reaching.{goes-on}
 use Rattle.reached_states.proofs.Promises.{held-where-reached, all-queued-where-reached, one-for-one-where-reached}
-use Rattle.engine_loop.specs.Engines.{Steps}
+use Rattle.server_engine.specs.Engines.{Steps}
 use Rattle.server_core.specs.declared.server.ServerCore.{ServerCore}
 use Rattle.server_core.specs.Lines.{line_of}
 use Rattle.server_core.specs.Scripts.{script_of}

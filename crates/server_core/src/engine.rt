@@ -3,14 +3,14 @@
 ghost use Rattle.std.specs.Prelude.{◌≡◌, ◌≤◌, false, true, length, OnOk, OnErr};
 ghost use Rattle.machine.specs.Happenings.{Took, Closed};
 ghost use Rattle.machine.specs.Readings as machine;
-ghost use Rattle.engine_loop.specs.Engines.{meaning, Steps, ClosesParting, Reads, Offers, Counts, Logs, ClearsLog};
+ghost use Rattle.server_engine.specs.Engines.{meaning, Steps, ClosesParting, Reads, Offers, Counts, Logs, ClearsLog};
 ghost use Rattle.server_core.specs.Driving.{serves_in, departs_in};
 ghost use Rattle.server_core.specs.Taking.{queued_in};
 ghost use Rattle.server_core.specs.Promises.{GoesOnRunning};
 ghost use Rattle.server_core.specs.Departing.{departs_too};
 
 use crate::server::ServerCore;
-use engine_loop::{Engine, Happening};
+use server_engine::{Engine, Happening};
 use share_base::OutOfMemory;
 
 impl Engine for ServerCore {

@@ -4,7 +4,7 @@ ghost use Rattle.std.specs.Prelude.{◌≡◌, ◌+◌, ◌≤◌, ◌^◌, ℕ,
 ghost use Rattle.machine.specs.States.{State};
 ghost use Rattle.machine.specs.Screens.{change};
 ghost use Rattle.machine.specs.Steps as steps;
-ghost use Rattle.engine_loop.specs.Engines.{meaning, Steps};
+ghost use Rattle.server_engine.specs.Engines.{meaning, Steps};
 ghost use Rattle.server_core.specs.Leading.{Leads};
 ghost use Rattle.server_core.specs.Serving.{Serves};
 ghost use Rattle.server_core.specs.Receiving.{given_by};
@@ -13,7 +13,7 @@ ghost use Rattle.server_core.specs.Driving.{serves_in};
 
 use crate::server::ServerCore;
 use crate::timers::Timer;
-use engine_loop::Happening;
+use server_engine::Happening;
 use hello_states::PartCause;
 use share_base::OutOfMemory;
 

@@ -1,5 +1,5 @@
 use super::*;
-use engine_loop::{Engine, Happening};
+use server_engine::{Engine, Happening};
 use screen_config::Config;
 use script_screen::read_script;
 use share_base::ScreenName;

@@ -1,6 +1,6 @@
 use Rattle.std.specs.Prelude.{ℕ, List}
 use Rattle.std.proofs.Common.{sym, subst}
-use Rattle.engine_loop.specs.Engines.{ClearsLog}
+use Rattle.server_engine.specs.Engines.{ClearsLog}
 use Rattle.server_core.specs.Driving.{serves_in, departs_in}
 use Rattle.server_core.proofs.Driven.{serves-cleared, departs-cleared}
 use Rattle.server_core.proofs.engine.ServerCoreEngine.clear_log.Goals as goal

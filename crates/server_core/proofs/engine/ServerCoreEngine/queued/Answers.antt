@@ -1,5 +1,5 @@
 use Rattle.std.proofs.Common.{sym, subst}
-use Rattle.engine_loop.specs.Engines.{AreNext}
+use Rattle.server_engine.specs.Engines.{AreNext}
 use Rattle.attentive_acts.specs.Flags.{has_more}
 use Rattle.reached_states.proofs.Taken.{taken-is-queued}
 use Rattle.server_core.proofs.Offering.{next-untaken}

@@ -1,8 +1,8 @@
 use Rattle.std.proofs.Common.{sym, subst}
 use Rattle.hello_states.specs.declared.part_cause.PartCause.TheVariants as cause
 use Rattle.machine.specs.Happenings as machine
-use Rattle.engine_loop.specs.declared.happening.Happening.{Happening}
-use Rattle.engine_loop.specs.Engines.{Steps, meaning}
+use Rattle.server_engine.specs.declared.happening.Happening.{Happening}
+use Rattle.server_engine.specs.Engines.{Steps, meaning}
 use Rattle.server_core.specs.Driving.{serves_in}
 use Rattle.server_core.proofs.Happened.{steps-leads, steps-joined}
 use Rattle.server_core.proofs.server.ServerCore.happen.Goals as goal

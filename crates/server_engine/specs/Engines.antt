@@ -10,8 +10,8 @@ use Rattle.machine.specs.Steps.{step}
 use Rattle.reached_states.specs.Reaching.{Origin, Reached}
 use Rattle.attentive_acts.specs.Flags.{has_more}
 use Rattle.attentive_acts.specs.Judging.{untaken}
-use Rattle.engine_loop.specs.declared.happening.Happening.{Happening}
-use Rattle.engine_loop.specs.declared.happening.Happening.TheVariants.{Joined, Got, Ended, Failed, Moment}
+use Rattle.server_engine.specs.declared.happening.Happening.{Happening}
+use Rattle.server_engine.specs.declared.happening.Happening.TheVariants.{Joined, Got, Ended, Failed, Moment}
 
 -- ---- happenings
 

@@ -4,7 +4,7 @@ ghost use Rattle.std.specs.Prelude.{◌≡◌, ◌≤◌, ℕ, List, length, OnO
 ghost use Rattle.machine.specs.States.{State};
 ghost use Rattle.machine.specs.Happenings.{Took, Closed};
 ghost use Rattle.machine.specs.Readings as machine;
-ghost use Rattle.engine_loop.specs.Engines.{meaning, Steps, ClosesParting, Reads, Offers, Counts, Logs, ClearsLog};
+ghost use Rattle.server_engine.specs.Engines.{meaning, Steps, ClosesParting, Reads, Offers, Counts, Logs, ClearsLog};
 
 use crate::happening::Happening;
 use share_base::OutOfMemory;
