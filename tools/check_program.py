@@ -92,7 +92,8 @@ def differences(case, code, error, output):
 def passes(program, case):
     """Runs one case in a folder of its own, and prints how it differs."""
     with tempfile.TemporaryDirectory() as folder:
-        (pathlib.Path(folder) / case.file).write_bytes(case.text)
+        for name, text in [(case.file, case.text), *case.files]:
+            (pathlib.Path(folder) / name).write_bytes(text)
         found = list(differences(case, *ended(program, case, folder)))
     for difference in found:
         print(f"{program.name}: {case.name}: {difference}")

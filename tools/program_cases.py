@@ -6,6 +6,8 @@ The expected values follow docs/protocol.md and docs/configuration.md; none is c
 import pathlib
 from typing import NamedTuple
 
+import replay_rows
+
 EXAMPLES = pathlib.Path(__file__).resolve().parent.parent / "examples"
 # How the command of an example ends, unless with 0 and no line.
 EXAMPLE_ENDS = {("keys", "inject"): (9, "lost ended")}
@@ -35,6 +37,8 @@ class Case(NamedTuple):
     # A file that lies in the folder of the run, and its name.
     text: bytes = b""
     file: str = CONFIG
+    # Further files that lie there: their names and bytes.
+    files: tuple = ()
     # How each stream is given: a pipe, "closed", a path to open, or for the output "broken", a pipe without a reader.
     stdin: str = "pipe"
     stdout: str = "pipe"
@@ -139,15 +143,36 @@ def text_of_size(size):
     return comment * count + b"\n" * rest + tail
 
 
+# What the words of an example's command are, and the endings of the files that it reads by name.
+EXAMPLE_WORDS = {
+    "inject": lambda name: ["inject"],
+    "show": lambda name: ["show", "server"],
+    "check": lambda name: ["check", f"{name}.conf"],
+    "replay": lambda name: ["replay", f"{name}.conf", f"{name}.script", f"{name}.trace"],
+}
+TEXTS = (".conf", ".script", ".trace")
+
+
+def example(name):
+    return (EXAMPLES / name).read_bytes()
+
+
 def examples():
     """Each output that lies beside a file of examples/, as NAME.COMMAND.out."""
     for output in sorted(EXAMPLES.glob("*.*.out")):
         name, command, _ = output.name.split(".")
         end = EXAMPLE_ENDS.get((name, command), (0, ""))
-        words = {"inject": ["inject"], "show": ["show", "server"], "check": ["check", CONFIG]}[command]
-        given = (EXAMPLES / name).with_suffix(".conf" if command == "check" else ".bin").read_bytes()
-        place = {"text" if command == "check" else "input": given}
-        yield Case(f"example {output.name}", words, *end, output.read_bytes(), **place)
+        place = {"input": lambda: [example(f"{name}.bin")]} if command in ("inject", "show") else {}
+        files = [(file.name, file.read_bytes()) for file in EXAMPLES.glob(f"{name}.*") if file.suffix in TEXTS]
+        yield Case(f"example {output.name}", EXAMPLE_WORDS[command](name), *end, output.read_bytes(), files=files, **place)
+
+
+def replays():
+    """Each row of replay_rows.py."""
+    for row in replay_rows.ROWS:
+        files = [("conf", row.config), ("script", row.script), ("trace", row.trace)]
+        words = ["replay", *(name for name, _ in files)]
+        yield Case(f"replay: {row.name}", words, row.code, row.line, row.log, files=files)
 
 
 CASES = [
@@ -162,6 +187,7 @@ CASES = [
     usage("an end too many", "show", "server", "client"),
     usage("no file", "check"),
     usage("a file too many", "check", CONFIG, CONFIG),
+    usage("a trace too few", "replay", CONFIG, CONFIG),
     usage("not UTF-8", b"\xff"),
     usage("a file's name that is not UTF-8", "check", CONFIG.encode() + b"\xff"),
     # How a stream ends.
@@ -237,5 +263,6 @@ CASES = [
     bad_config("2 12 UnknownKey", b"section: options\n\tkeystroke(Nope) = lockCursorToScreen(on)\n"),
     bad_config("2 18 UnknownAction", b"section: options\n\tkeystroke(F1) = dance(on)\n"),
     bad_config("66 2 TooMany", b"section: screens\n" + b"".join(b"\ts%d:\n" % number for number in range(65))),
+    *replays(),
     *examples(),
 ]

@@ -41,10 +41,10 @@ not_both text c r x y = let both : (let a : Reading = Ok c in a) ≡ Err r = sym
 same_refusal : (text : List ℕ) (a b : ConfigRefusal) → Refuses text a → Refuses text b → a ≡ b
 same_refusal text a b x y = let both : (let r : Reading = Err a in r) ≡ Err b = sym (refused_so text a x) ∙ refused_so text b y in cc
 
-holds_of : (P : List ℕ → Type 0) (file : List ℕ) → HasText (Some file) P → P file
+holds_of : (P : List ℕ → Type 0) (file : List ℕ) → HasText config_limit (Some file) P → P file
 holds_of P file h = subst P h.is_file h.holds
 
-too_long : (P : List ℕ → Type 0) (file : List ℕ) → HasText (Some file) P → config_limit < length file → ⊥
+too_long : (P : List ℕ → Type 0) (file : List ℕ) → HasText config_limit (Some file) P → config_limit < length file → ⊥
 too_long P file h long = omega (arith, h.within, ap length h.is_file, long)
 
 -- ---- each kind of file

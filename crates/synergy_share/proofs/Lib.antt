@@ -1,8 +1,8 @@
-pub mod SingleWords
 pub mod InputEnds
 pub mod Shown
 pub mod Runs
 pub mod Injection
 pub mod OneEnd
 pub mod Checked
+pub mod TextLines
 pub mod Adapters

@@ -18,15 +18,16 @@ config_limit = 1048576
 
 -- the file has a text within the limit, of which this holds; where the file is told, the text is
 -- its bytes
-pub record HasText (told : Option (List ℕ)) (Holds : List ℕ → Type 0) : Type 0 where
+pub record HasText (limit : ℕ) (told : Option (List ℕ)) (Holds : List ℕ → Type 0)
+    : Type 0 where
   pub text : List ℕ
-  pub within : length text ≤ config_limit
+  pub within : length text ≤ limit
   pub is_file : IfSome told (λ bytes. text ≡ bytes)
   pub holds : Holds text
 
 -- the file spells that configuration
 abbrev pub HasConfig : Option (List ℕ) → Configuration → Type 0
-HasConfig told config = HasText told (λ text. Accepts text config)
+HasConfig told config = HasText config_limit told (λ text. Accepts text config)
 
 -- the refusal of a file that is too big names no line
 abbrev pub too_big : ConfigRefusal
@@ -38,7 +39,7 @@ bad_config r = status.BadConfig r.line r.column r.kind
 -- the file's text is refused so, or the file has more bytes than the limit
 abbrev pub IsRefused : Option (List ℕ) → ConfigRefusal → Type 0
 IsRefused told r =
-    HasText told (λ text. Refuses text r)
+    HasText config_limit told (λ text. Refuses text r)
     ⊎ ((r ≡ too_big) × IfSome told (λ bytes. config_limit < length bytes))
 
 -- why a command ends so without a configuration
@@ -91,4 +92,6 @@ pub record ReadsOnce (told told' : List ℕ → Option (List ℕ)) (calls calls'
 -- other end
 abbrev pub OverCounts : Status → ℕ → ℕ → Type 0
 OverCounts (status.BadConfig zero column kind) old new = Rises old new
+OverCounts (status.BadScript zero kind) old new = Rises old new
+OverCounts (status.BadTrace zero kind) old new = Rises old new
 OverCounts _ old new = new ≡ old

@@ -5,6 +5,8 @@ pub mod Shows
 pub mod Injecting
 pub mod Commands
 pub mod Checking
+pub mod Texts
+pub mod Replaying
 pub mod Causes
 pub mod Statuses
 pub mod Words

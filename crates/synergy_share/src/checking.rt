@@ -29,7 +29,11 @@ fn parse_config(alloc: Global, text: &[u8]) -> Result<Config, Status>
 }
 
 /// The configuration in the file of that name, or how a command ends without it.
-fn read_config<F: Files>(alloc: Global, name: &str, files: &mut F) -> Result<Config, Status>
+pub(crate) fn read_config<F: Files>(
+    alloc: Global,
+    name: &str,
+    files: &mut F,
+) -> Result<Config, Status>
     ensures reads { ReadsConfig result (F.told files.old name.now) }
     ensures once { ReadsOnce (F.told files.old) (F.told files.new) (F.calls files.old)
         (F.calls files.new) }

@@ -1,7 +1,9 @@
 //! The commands that read a stream and print its messages.
 
-ghost use Rattle.std.specs.Prelude.{◌≡◌, [], None};
+ghost use Rattle.std.specs.Prelude.{◌≡◌, ◌<◌, [], None, length};
 ghost use Rattle.share_base.specs.Told.{NotSet};
+ghost use Rattle.share_base.specs.Reading.{FitsRead, Reads as ReadsOnce};
+ghost use Rattle.message_codec.specs.Streams.{AreBytes};
 ghost use Rattle.synergy_share.specs.Ways.{showing, injecting};
 ghost use Rattle.synergy_share.specs.Cores.{FinishesCore};
 ghost use Rattle.synergy_share.specs.Commands.{Reads, Stops, Releases};
@@ -30,6 +32,16 @@ fn finish<C: LineCore, K: Sink>(core: &mut C, out: &mut K, end: Status) -> Statu
     }
 }
 
+/// Reads once, as the source does: what stands in the buffer then are bytes.
+fn read<S: Source>(input: &mut S, buf: &mut [u8]) -> SourceAnswer
+    requires { 0 < length buf.old }
+    ensures fits { FitsRead result (length buf.old) }
+    ensures reads { ReadsOnce result buf.new (S.state input.old) (S.state input.new) }
+    ensures bytes { AreBytes buf.new }
+{
+    input.read(buf)
+}
+
 fn run_over<C: LineCore + Drop, S: Source, K: Sink>(
     mut core: C,
     input: &mut S,
@@ -48,7 +60,7 @@ fn run_over<C: LineCore + Drop, S: Source, K: Sink>(
     let mut buffer = [0u8; 4096];
     let mut total = 0;
     while total <= INPUT_LIMIT {
-        match input.read(&mut buffer) {
+        match read(input, &mut buffer) {
             SourceAnswer::Failed => return finish(&mut core, out, Status::ReadFault),
             SourceAnswer::End => {
                 let end = core.status_at_end();

@@ -37,9 +37,14 @@ fn client_end(end: Status) -> ClientEnd
         Status::LinkFault => ClientEnd::LinkFault,
         Status::WriteFault => ClientEnd::WriteFault,
         Status::OutOfMemory => ClientEnd::OutOfMemory,
-        Status::BadConfig { .. } | Status::InputTooLong | Status::Usage | Status::ReadFault => {
-            ClientEnd::Lost(LostCause::Ended)
-        }
+        Status::BadConfig { .. }
+        | Status::BadScript { .. }
+        | Status::BadTrace { .. }
+        | Status::InputTooLong
+        | Status::Usage
+        | Status::ReadFault
+        | Status::HubFault
+        | Status::BadPeer { .. } => ClientEnd::Lost(LostCause::Ended),
     }
 }
 

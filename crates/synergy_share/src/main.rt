@@ -8,7 +8,6 @@
 #[cfg(test)]
 mod check_tests;
 mod checking;
-mod command;
 mod commands;
 mod inject_core;
 mod laws;
@@ -16,18 +15,21 @@ mod line_core;
 mod real;
 #[cfg(test)]
 mod real_tests;
+mod replaying;
 mod show_core;
 mod status;
 #[cfg(test)]
 mod tests;
+mod texts;
 mod top;
 
 pub use checking::run_check;
-pub use command::{Command, form};
+pub use command_words::{Command, form};
 pub use commands::{run_inject, run_show};
 pub use laws::{file_decides, one_end, refusals_name_lines};
 pub use line_core::LineCore;
 pub use real::{StdFiles, StdSink, StdSource};
+pub use replaying::run_replay;
 pub use show_core::ShowCore;
 pub use status::Status;
 use std::env;

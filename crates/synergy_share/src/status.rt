@@ -1,11 +1,14 @@
 //! How a command ends.
 
-ghost use Rattle.std.specs.Prelude.{◌≡◌, [], ◌∷◌, ◌++◌, codes};
+ghost use Rattle.std.specs.Prelude.{◌≡◌, [], ◌∷◌, ◌++◌, ◌≤◌, codes, length};
 ghost use Rattle.std.specs.Fmt.{decimal};
+ghost use Rattle.share_base.specs.Reasons.{reason_text};
 ghost use Rattle.config_text.specs.Kinds.{kind_text};
+ghost use Rattle.script_screen.specs.Kinds.{text_kind_word};
 
 use client_core::{LostCause, Which};
 use config_text::ConfigKind;
+use script_screen::TextKind;
 use share_base::{Buffer, Lines, Reason, put_u32, put_u64};
 
 /// How a command ends. `docs/protocol.md` has the table of codes and lines.
@@ -22,6 +25,20 @@ pub enum Status {
         /// What is wrong there.
         kind: ConfigKind,
     },
+    /// A script is refused, of a server or of a client.
+    BadScript {
+        /// Its line, from 1; 0 where the file is too big.
+        line: u32,
+        /// The first thing that is wrong there.
+        kind: TextKind,
+    },
+    /// A trace is refused.
+    BadTrace {
+        /// Its line, from 1; 0 where the file is too big.
+        line: u32,
+        /// The first thing that is wrong there.
+        kind: TextKind,
+    },
     /// A frame is bad, at that place, the number of bytes before it.
     BadFrames {
         /// Where its length field begins.
@@ -37,6 +54,8 @@ pub enum Status {
     ReadFault,
     /// The output failed.
     WriteFault,
+    /// The hub failed.
+    HubFault,
     /// The link failed.
     LinkFault,
     /// Memory could not be had.
@@ -47,6 +66,13 @@ pub enum Status {
     Refused(Which),
     /// The peer was lost.
     Lost(LostCause),
+    /// A frame of the server is bad, at that place, the number of bytes before it.
+    BadPeer {
+        /// Where its length field begins.
+        place: u64,
+        /// What is wrong with it.
+        reason: Reason,
+    },
 }
 
 /// Where and why a configuration is refused, on a line that is empty yet.
@@ -65,6 +91,34 @@ fn put_refusal(text: &mut Lines, line: u32, column: u32, kind: ConfigKind)
     text.extend(b"\n");
 }
 
+/// Which line of a text is refused and why, on a line that is empty yet.
+fn put_text_refusal(text: &mut Lines, word: &'static [u8], line: u32, kind: TextKind)
+    requires empty { text.old ≡ [] }
+    requires short { length word.now ≤ 7 }
+    ensures { text.new
+        ≡ word.now ++ decimal line ++ 32 ∷ [] ++ text_kind_word kind ++ 10 ∷ [] }
+{
+    text.extend(word);
+    put_u32(text, line);
+    text.extend(b" ");
+    text.extend(kind.text());
+    text.extend(b"\n");
+}
+
+/// Where a frame is bad and why, on a line that is empty yet.
+fn put_bad_frame(text: &mut Lines, word: &'static [u8], place: u64, reason: Reason)
+    requires empty { text.old ≡ [] }
+    requires short { length word.now ≤ 7 }
+    ensures { text.new
+        ≡ word.now ++ decimal place ++ 32 ∷ [] ++ reason_text reason ++ 10 ∷ [] }
+{
+    text.extend(word);
+    put_u64(text, place);
+    text.extend(b" ");
+    text.extend(reason.text());
+    text.extend(b"\n");
+}
+
 impl Status {
     ghost use Rattle.synergy_share.specs.Statuses.{exit_code, status_line};
 
@@ -74,15 +128,19 @@ impl Status {
     {
         match self {
             Status::Ok => 0,
-            Status::BadConfig { .. } | Status::BadFrames { .. } | Status::InputTooLong => 1,
+            Status::BadConfig { .. }
+            | Status::BadScript { .. }
+            | Status::BadTrace { .. }
+            | Status::BadFrames { .. }
+            | Status::InputTooLong => 1,
             Status::Usage => 2,
             Status::ReadFault => 3,
             Status::WriteFault => 4,
-            Status::LinkFault => 5,
+            Status::HubFault | Status::LinkFault => 5,
             Status::OutOfMemory => 6,
             Status::TurnsSpent => 7,
             Status::Refused(_) => 8,
-            Status::Lost(_) => 9,
+            Status::Lost(_) | Status::BadPeer { .. } => 9,
         }
     }
 
@@ -98,6 +156,7 @@ impl Status {
             Status::ReadFault => text.extend(b"read fault\n"),
             Status::WriteFault => text.extend(b"write fault\n"),
             Status::OutOfMemory => text.extend(b"out of memory\n"),
+            Status::HubFault => text.extend(b"hub fault\n"),
             Status::LinkFault => text.extend(b"link fault\n"),
             Status::TurnsSpent => text.extend(b"turns spent\n"),
             Status::Refused(Which::Version) => text.extend(b"refused version\n"),
@@ -110,13 +169,12 @@ impl Status {
             Status::Lost(LostCause::Dead) => text.extend(b"lost dead\n"),
             Status::Lost(LostCause::Slow) => text.extend(b"lost slow\n"),
             Status::BadConfig { line, column, kind } => put_refusal(&mut text, line, column, kind),
+            Status::BadScript { line, kind } => put_text_refusal(&mut text, b"script ", line, kind),
+            Status::BadTrace { line, kind } => put_text_refusal(&mut text, b"trace ", line, kind),
             Status::BadFrames { place, reason } => {
-                text.extend(b"frames ");
-                put_u64(&mut text, place);
-                text.extend(b" ");
-                text.extend(reason.text());
-                text.extend(b"\n");
+                put_bad_frame(&mut text, b"frames ", place, reason)
             }
+            Status::BadPeer { place, reason } => put_bad_frame(&mut text, b"peer ", place, reason),
         }
         text
     }

@@ -2,15 +2,18 @@
 
 ghost use Rattle.std.specs.Prelude.{◌≡◌, IfSome, List, ℕ};
 ghost use Rattle.share_base.specs.Told.{NotSet};
-ghost use Rattle.synergy_share.specs.Words.{Form, Inject, Check, Names, NoForm, Leaves, way_of};
+ghost use Rattle.command_words.specs.Forms.{Form, Inject, Check, Replay, Names, NoForm};
+ghost use Rattle.synergy_share.specs.Words.{Leaves, way_of};
 ghost use Rattle.synergy_share.specs.Commands.{Reads, Stops, Releases};
 ghost use Rattle.synergy_share.specs.Checking.{Checks, ReadsOnce, OverCounts};
+ghost use Rattle.synergy_share.specs.Replaying.{Replays, given_by};
 ghost use Rattle.synergy_share.specs.Causes.{AllCauses};
 
 use crate::checking::run_check;
-use crate::command::{Command, form};
 use crate::commands::{run_inject, run_show};
+use crate::replaying::run_replay;
 use crate::status::Status;
+use command_words::{Command, form};
 use share_base::{Files, Sink, Source};
 use std::alloc::Global;
 
@@ -39,6 +42,13 @@ pub fn run<F: Files, S: Source, K: Sink>(
         → ReadsOnce (F.told files.old) (F.told files.new) (F.calls files.old) (F.calls files.new) }
     ensures overs { (config : List ℕ) → Names (Check config) words.now
         → OverCounts result (F.overs files.old) (F.overs files.new) }
+    ensures replays { (config script trace : List ℕ)
+        → Names (Replay config script trace) words.now
+        → Replays result (given_by (F.told files.old) config script trace)
+        (F.calls files.old) (F.calls files.new) (K.state out.old) (K.state out.new) }
+    ensures replay_overs { (config script trace : List ℕ)
+        → Names (Replay config script trace) words.now
+        → OverCounts result (F.overs files.old) (F.overs files.new) }
     ensures usage { NoForm words.now → result ≡ Status.Usage }
     ensures untouched { NoForm words.now
         → (files.new ≡ files.old) × (input.new ≡ input.old) × (out.new ≡ out.old) }
@@ -51,6 +61,13 @@ pub fn run<F: Files, S: Source, K: Sink>(
         Some(Command::Inject) => run_inject(alloc, input, out),
         Some(Command::Show(end)) => run_show(alloc, end, input, out),
         Some(Command::Check(config)) => run_check(alloc, config, files, out),
+        Some(
+            Command::Replay {
+                config,
+                script,
+                trace,
+            },
+        ) => run_replay(alloc, config, script, trace, files, out),
         None => Status::Usage,
     }
 }

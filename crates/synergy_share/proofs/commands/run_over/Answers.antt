@@ -2,7 +2,6 @@ use Rattle.std.proofs.Common.{◌≡◌, ◌+◌, ℕ, List, refl, sym, subst, �
 use Rattle.share_base.specs.Told.{NotSet, after as after_bytes}
 use Rattle.share_base.specs.Writing.{TakesFront}
 use Rattle.message_codec.specs.declared.messages.Msg.{Msg}
-use Rattle.message_reader.proofs.Stepping.{all_bytes}
 use Rattle.synergy_share.specs.declared.status.Status.TheVariants as status
 use Rattle.synergy_share.specs.Commands.{read_fault, too_long}
 use Rattle.synergy_share.proofs.Runs.{at_first, at_fed, at_written, feed_fits, stops_here, reads_write_fault, finished_open, finished_end, finished_stop, causes_end, causes_stop}
@@ -33,7 +32,7 @@ returns-in-Failed-clause-reads g c =
     let out = g.K.Sink.state c.args.out.now in
     let w = core.way c.args.core in
     let keeps = λ (stream : List ℕ) (messages : List Msg) (taken : List ℕ). g.met.C.LineCore.keeps l.core w stream messages taken in
-    finished_open w (core.kept l.core w) status.ReadFault c.finish.result (core.lines l.core) (core.done l.core) (core.total l.core) l.total input (g.S.Source.state l.input) (g.S.Source.state c.read.new.self) out (g.K.Sink.state l.out) (g.K.Sink.state c.finish.new.out) l.invariant.at keeps l.invariant.empty l.invariant.goes c.in-Failed.ensures.reads.gives
+    finished_open w (core.kept l.core w) status.ReadFault c.finish.result (core.lines l.core) (core.done l.core) (core.total l.core) l.total input (g.S.Source.state l.input) (g.S.Source.state c.read.new.input) out (g.K.Sink.state l.out) (g.K.Sink.state c.finish.new.out) l.invariant.at keeps l.invariant.empty l.invariant.goes c.in-Failed.ensures.reads.gives
     (λ v none. read_fault none refl) (λ messages all same. same) (λ same. no_fault same) (c.finish.ensures w)
 
 pub returns-in-Failed-clause-stops : goal.returns-in-Failed-clause-stops
@@ -44,7 +43,7 @@ returns-in-Failed-clause-stops g c =
     let out = g.K.Sink.state c.args.out.now in
     let w = core.way c.args.core in
     let keeps = λ (stream : List ℕ) (messages : List Msg) (taken : List ℕ). g.met.C.LineCore.keeps l.core w stream messages taken in
-    stops_here w (core.kept l.core w) (core.lines l.core) (core.done l.core) (core.total l.core) l.total input (g.S.Source.state l.input) (g.S.Source.state c.read.new.self) out (g.K.Sink.state l.out) l.invariant.at keeps l.invariant.goes l.invariant.not_ended c.loop-total-test.true c.read.ensures.reads.left_before c.read.ensures.reads.ended_before
+    stops_here w (core.kept l.core w) (core.lines l.core) (core.done l.core) (core.total l.core) l.total input (g.S.Source.state l.input) (g.S.Source.state c.read.new.input) out (g.K.Sink.state l.out) l.invariant.at keeps l.invariant.goes l.invariant.not_ended c.loop-total-test.true c.read.ensures.reads.left_before c.read.ensures.reads.ended_before
 
 pub returns-in-End-clause-reads : goal.returns-in-End-clause-reads
 returns-in-End-clause-reads g c =
@@ -54,7 +53,7 @@ returns-in-End-clause-reads g c =
     let out = g.K.Sink.state c.args.out.now in
     let w = core.way c.args.core in
     let keeps = λ (stream : List ℕ) (messages : List Msg) (taken : List ℕ). g.met.C.LineCore.keeps l.core w stream messages taken in
-    finished_end w (core.kept l.core w) c.status_at_end-end.result c.finish-in-End.result (core.lines l.core) (core.done l.core) (core.total l.core) l.total c.read.new.buf input (g.S.Source.state l.input) (g.S.Source.state c.read.new.self) out (g.K.Sink.state l.out) (g.K.Sink.state c.finish-in-End.new.out) l.invariant.at keeps l.invariant.empty c.loop-total-test.true c.in-End.ensures.reads
+    finished_end w (core.kept l.core w) c.status_at_end-end.result c.finish-in-End.result (core.lines l.core) (core.done l.core) (core.total l.core) l.total c.read.new.buf input (g.S.Source.state l.input) (g.S.Source.state c.read.new.input) out (g.K.Sink.state l.out) (g.K.Sink.state c.finish-in-End.new.out) l.invariant.at keeps l.invariant.empty c.loop-total-test.true c.in-End.ensures.reads
     (c.status_at_end-end.ensures w) (c.finish-in-End.ensures w)
 
 pub returns-in-End-clause-stops : goal.returns-in-End-clause-stops
@@ -65,7 +64,7 @@ returns-in-End-clause-stops g c =
     let out = g.K.Sink.state c.args.out.now in
     let w = core.way c.args.core in
     let keeps = λ (stream : List ℕ) (messages : List Msg) (taken : List ℕ). g.met.C.LineCore.keeps l.core w stream messages taken in
-    stops_here w (core.kept l.core w) (core.lines l.core) (core.done l.core) (core.total l.core) l.total input (g.S.Source.state l.input) (g.S.Source.state c.read.new.self) out (g.K.Sink.state l.out) l.invariant.at keeps l.invariant.goes l.invariant.not_ended c.loop-total-test.true c.read.ensures.reads.left_before c.read.ensures.reads.ended_before
+    stops_here w (core.kept l.core w) (core.lines l.core) (core.done l.core) (core.total l.core) l.total input (g.S.Source.state l.input) (g.S.Source.state c.read.new.input) out (g.K.Sink.state l.out) l.invariant.at keeps l.invariant.goes l.invariant.not_ended c.loop-total-test.true c.read.ensures.reads.left_before c.read.ensures.reads.ended_before
 
 pub returns-in-End-clause-causes : goal.returns-in-End-clause-causes
 returns-in-End-clause-causes g c =
@@ -74,7 +73,7 @@ returns-in-End-clause-causes g c =
     let input = g.S.Source.state c.args.input.now in
     let out = g.K.Sink.state c.args.out.now in
     let w = core.way c.args.core in
-    causes_end w (core.kept l.core w) c.status_at_end-end.result c.finish-in-End.result l.total input (g.S.Source.state l.input) (g.S.Source.state c.read.new.self) out (g.K.Sink.state l.out) (g.K.Sink.state c.finish-in-End.new.out) l.invariant.at (c.status_at_end-end.ensures w) (c.in-End.ensures.reads.counts ∙ l.invariant.read_faults) l.invariant.write_faults (c.finish-in-End.ensures w)
+    causes_end w (core.kept l.core w) c.status_at_end-end.result c.finish-in-End.result l.total input (g.S.Source.state l.input) (g.S.Source.state c.read.new.input) out (g.K.Sink.state l.out) (g.K.Sink.state c.finish-in-End.new.out) l.invariant.at (c.status_at_end-end.ensures w) (c.in-End.ensures.reads.counts ∙ l.invariant.read_faults) l.invariant.write_faults (c.finish-in-End.ensures w)
 
 pub feed-requires-clause-fits : goal.feed-requires-clause-fits
 feed-requires-clause-fits g c =
@@ -94,9 +93,9 @@ returns-then-not-write_all-clause-reads g c =
     let out = g.K.Sink.state c.args.out.now in
     let w = core.way c.args.core in
     let after = c.feed.new.self in
-    let fed = at_fed (core.kept l.core w) (core.kept after w) l.total c.in-Got.n c.min-counted.result c.read.new.buf input (g.S.Source.state l.input) (g.S.Source.state c.read.new.self) out (g.K.Sink.state l.out) l.invariant.at c.in-Got.ensures.reads (omega (arith, c.in-Got.ensures.fits, c.read.auto.buf)) c.loop-total-test.true c.min-counted.ensures (all_bytes c.read.new.buf (λ i. omega (arith, c.type_inv.buffer i))) (c.feed.ensures w) in
+    let fed = at_fed (core.kept l.core w) (core.kept after w) l.total c.in-Got.n c.min-counted.result c.read.new.buf input (g.S.Source.state l.input) (g.S.Source.state c.read.new.input) out (g.K.Sink.state l.out) l.invariant.at c.in-Got.ensures.reads (omega (arith, c.in-Got.ensures.fits, c.read.auto.buf)) c.loop-total-test.true c.min-counted.ensures c.read.ensures.bytes (c.feed.ensures w) in
     let keeps = λ (stream : List ℕ) (messages : List Msg) (taken : List ℕ). g.met.C.LineCore.keeps after w stream messages taken in
-    reads_write_fault w (core.kept after w) (core.lines after) (core.done after) (core.total after) (l.total + c.in-Got.n) input (g.S.Source.state c.read.new.self) out (g.K.Sink.state l.out) (g.K.Sink.state c.write_all.new.out) fed keeps
+    reads_write_fault w (core.kept after w) (core.lines after) (core.done after) (core.total after) (l.total + c.in-Got.n) input (g.S.Source.state c.read.new.input) out (g.K.Sink.state l.out) (g.K.Sink.state c.write_all.new.out) fed keeps
     (subst (λ (t : List ℕ). TakesFront t (g.K.Sink.state l.out).taken (g.K.Sink.state c.write_all.new.out).taken) c.printed.ensures c.if-not-write_all.ensures.taken)
 
 pub returns-then-not-write_all-clause-stops : goal.returns-then-not-write_all-clause-stops
@@ -107,7 +106,7 @@ returns-then-not-write_all-clause-stops g c =
     let out = g.K.Sink.state c.args.out.now in
     let w = core.way c.args.core in
     let keeps = λ (stream : List ℕ) (messages : List Msg) (taken : List ℕ). g.met.C.LineCore.keeps l.core w stream messages taken in
-    stops_here w (core.kept l.core w) (core.lines l.core) (core.done l.core) (core.total l.core) l.total input (g.S.Source.state l.input) (g.S.Source.state c.read.new.self) out (g.K.Sink.state l.out) l.invariant.at keeps l.invariant.goes l.invariant.not_ended c.loop-total-test.true c.read.ensures.reads.left_before c.read.ensures.reads.ended_before
+    stops_here w (core.kept l.core w) (core.lines l.core) (core.done l.core) (core.total l.core) l.total input (g.S.Source.state l.input) (g.S.Source.state c.read.new.input) out (g.K.Sink.state l.out) l.invariant.at keeps l.invariant.goes l.invariant.not_ended c.loop-total-test.true c.read.ensures.reads.left_before c.read.ensures.reads.ended_before
 
 pub returns-in-Some-clause-reads : goal.returns-in-Some-clause-reads
 returns-in-Some-clause-reads g c =
@@ -117,12 +116,12 @@ returns-in-Some-clause-reads g c =
     let out = g.K.Sink.state c.args.out.now in
     let w = core.way c.args.core in
     let after = c.feed.new.self in
-    let fed = at_fed (core.kept l.core w) (core.kept after w) l.total c.in-Got.n c.min-counted.result c.read.new.buf input (g.S.Source.state l.input) (g.S.Source.state c.read.new.self) out (g.K.Sink.state l.out) l.invariant.at c.in-Got.ensures.reads (omega (arith, c.in-Got.ensures.fits, c.read.auto.buf)) c.loop-total-test.true c.min-counted.ensures (all_bytes c.read.new.buf (λ i. omega (arith, c.type_inv.buffer i))) (c.feed.ensures w) in
-    let written = at_written (core.kept after w) (core.kept c.clear_printed.new.self w) (l.total + c.in-Got.n) input (g.S.Source.state c.read.new.self) out (g.K.Sink.state l.out) (g.K.Sink.state c.write_all.new.out) (core.lines after) fed
+    let fed = at_fed (core.kept l.core w) (core.kept after w) l.total c.in-Got.n c.min-counted.result c.read.new.buf input (g.S.Source.state l.input) (g.S.Source.state c.read.new.input) out (g.K.Sink.state l.out) l.invariant.at c.in-Got.ensures.reads (omega (arith, c.in-Got.ensures.fits, c.read.auto.buf)) c.loop-total-test.true c.min-counted.ensures c.read.ensures.bytes (c.feed.ensures w) in
+    let written = at_written (core.kept after w) (core.kept c.clear_printed.new.self w) (l.total + c.in-Got.n) input (g.S.Source.state c.read.new.input) out (g.K.Sink.state l.out) (g.K.Sink.state c.write_all.new.out) (core.lines after) fed
     (subst (λ (t : List ℕ). (g.K.Sink.state c.write_all.new.out).taken ≡ after_bytes (g.K.Sink.state l.out).taken t) c.printed.ensures c.if-not-write_all.ensures.taken) (c.clear_printed.ensures.clears w) in
     let cleared = c.clear_printed.new.self in
     let keeps = λ (stream : List ℕ) (messages : List Msg) (taken : List ℕ). g.met.C.LineCore.keeps cleared w stream messages taken in
-    finished_stop w (core.kept cleared w) c.in-Some.end c.finish-in-Some.result (core.lines cleared) (core.done cleared) (core.total cleared) (l.total + c.in-Got.n) input (g.S.Source.state c.read.new.self) out (g.K.Sink.state c.write_all.new.out) (g.K.Sink.state c.finish-in-Some.new.out) written keeps c.clear_printed.ensures.empty c.in-Some.ensures (c.finish-in-Some.ensures w)
+    finished_stop w (core.kept cleared w) c.in-Some.end c.finish-in-Some.result (core.lines cleared) (core.done cleared) (core.total cleared) (l.total + c.in-Got.n) input (g.S.Source.state c.read.new.input) out (g.K.Sink.state c.write_all.new.out) (g.K.Sink.state c.finish-in-Some.new.out) written keeps c.clear_printed.ensures.empty c.in-Some.ensures (c.finish-in-Some.ensures w)
 
 pub returns-in-Some-clause-stops : goal.returns-in-Some-clause-stops
 returns-in-Some-clause-stops g c =
@@ -132,7 +131,7 @@ returns-in-Some-clause-stops g c =
     let out = g.K.Sink.state c.args.out.now in
     let w = core.way c.args.core in
     let keeps = λ (stream : List ℕ) (messages : List Msg) (taken : List ℕ). g.met.C.LineCore.keeps l.core w stream messages taken in
-    stops_here w (core.kept l.core w) (core.lines l.core) (core.done l.core) (core.total l.core) l.total input (g.S.Source.state l.input) (g.S.Source.state c.read.new.self) out (g.K.Sink.state l.out) l.invariant.at keeps l.invariant.goes l.invariant.not_ended c.loop-total-test.true c.read.ensures.reads.left_before c.read.ensures.reads.ended_before
+    stops_here w (core.kept l.core w) (core.lines l.core) (core.done l.core) (core.total l.core) l.total input (g.S.Source.state l.input) (g.S.Source.state c.read.new.input) out (g.K.Sink.state l.out) l.invariant.at keeps l.invariant.goes l.invariant.not_ended c.loop-total-test.true c.read.ensures.reads.left_before c.read.ensures.reads.ended_before
 
 pub returns-in-Some-clause-causes : goal.returns-in-Some-clause-causes
 returns-in-Some-clause-causes g c =
@@ -142,12 +141,12 @@ returns-in-Some-clause-causes g c =
     let out = g.K.Sink.state c.args.out.now in
     let w = core.way c.args.core in
     let after = c.feed.new.self in
-    let fed = at_fed (core.kept l.core w) (core.kept after w) l.total c.in-Got.n c.min-counted.result c.read.new.buf input (g.S.Source.state l.input) (g.S.Source.state c.read.new.self) out (g.K.Sink.state l.out) l.invariant.at c.in-Got.ensures.reads (omega (arith, c.in-Got.ensures.fits, c.read.auto.buf)) c.loop-total-test.true c.min-counted.ensures (all_bytes c.read.new.buf (λ i. omega (arith, c.type_inv.buffer i))) (c.feed.ensures w) in
-    let written = at_written (core.kept after w) (core.kept c.clear_printed.new.self w) (l.total + c.in-Got.n) input (g.S.Source.state c.read.new.self) out (g.K.Sink.state l.out) (g.K.Sink.state c.write_all.new.out) (core.lines after) fed
+    let fed = at_fed (core.kept l.core w) (core.kept after w) l.total c.in-Got.n c.min-counted.result c.read.new.buf input (g.S.Source.state l.input) (g.S.Source.state c.read.new.input) out (g.K.Sink.state l.out) l.invariant.at c.in-Got.ensures.reads (omega (arith, c.in-Got.ensures.fits, c.read.auto.buf)) c.loop-total-test.true c.min-counted.ensures c.read.ensures.bytes (c.feed.ensures w) in
+    let written = at_written (core.kept after w) (core.kept c.clear_printed.new.self w) (l.total + c.in-Got.n) input (g.S.Source.state c.read.new.input) out (g.K.Sink.state l.out) (g.K.Sink.state c.write_all.new.out) (core.lines after) fed
     (subst (λ (t : List ℕ). (g.K.Sink.state c.write_all.new.out).taken ≡ after_bytes (g.K.Sink.state l.out).taken t) c.printed.ensures c.if-not-write_all.ensures.taken) (c.clear_printed.ensures.clears w) in
     let cleared = c.clear_printed.new.self in
     let keeps = λ (stream : List ℕ) (messages : List Msg) (taken : List ℕ). g.met.C.LineCore.keeps cleared w stream messages taken in
-    causes_stop w (core.kept cleared w) c.in-Some.end c.finish-in-Some.result (core.lines cleared) (core.done cleared) (core.total cleared) (l.total + c.in-Got.n) input (g.S.Source.state c.read.new.self) out (g.K.Sink.state c.write_all.new.out) (g.K.Sink.state c.finish-in-Some.new.out) written keeps c.in-Some.ensures
+    causes_stop w (core.kept cleared w) c.in-Some.end c.finish-in-Some.result (core.lines cleared) (core.done cleared) (core.total cleared) (l.total + c.in-Got.n) input (g.S.Source.state c.read.new.input) out (g.K.Sink.state c.write_all.new.out) (g.K.Sink.state c.finish-in-Some.new.out) written keeps c.in-Some.ensures
     (c.in-Got.ensures.reads.counts ∙ l.invariant.read_faults) (c.if-not-write_all.ensures.counts ∙ l.invariant.write_faults) (c.finish-in-Some.ensures w)
 
 pub loop-total-preserved : goal.loop-total-preserved
@@ -158,8 +157,8 @@ loop-total-preserved g c =
     let out = g.K.Sink.state c.args.out.now in
     let w = core.way c.args.core in
     let after = c.feed.new.self in
-    let fed = at_fed (core.kept l.core w) (core.kept after w) l.total c.in-Got.n c.min-counted.result c.read.new.buf input (g.S.Source.state l.input) (g.S.Source.state c.read.new.self) out (g.K.Sink.state l.out) l.invariant.at c.in-Got.ensures.reads (omega (arith, c.in-Got.ensures.fits, c.read.auto.buf)) c.loop-total-test.true c.min-counted.ensures (all_bytes c.read.new.buf (λ i. omega (arith, c.type_inv.buffer i))) (c.feed.ensures w) in
-    let written = at_written (core.kept after w) (core.kept c.clear_printed.new.self w) (l.total + c.in-Got.n) input (g.S.Source.state c.read.new.self) out (g.K.Sink.state l.out) (g.K.Sink.state c.write_all.new.out) (core.lines after) fed
+    let fed = at_fed (core.kept l.core w) (core.kept after w) l.total c.in-Got.n c.min-counted.result c.read.new.buf input (g.S.Source.state l.input) (g.S.Source.state c.read.new.input) out (g.K.Sink.state l.out) l.invariant.at c.in-Got.ensures.reads (omega (arith, c.in-Got.ensures.fits, c.read.auto.buf)) c.loop-total-test.true c.min-counted.ensures c.read.ensures.bytes (c.feed.ensures w) in
+    let written = at_written (core.kept after w) (core.kept c.clear_printed.new.self w) (l.total + c.in-Got.n) input (g.S.Source.state c.read.new.input) out (g.K.Sink.state l.out) (g.K.Sink.state c.write_all.new.out) (core.lines after) fed
     (subst (λ (t : List ℕ). (g.K.Sink.state c.write_all.new.out).taken ≡ after_bytes (g.K.Sink.state l.out).taken t) c.printed.ensures c.if-not-write_all.ensures.taken) (c.clear_printed.ensures.clears w) in
     let keeps = λ (stream : List ℕ) (messages : List Msg) (taken : List ℕ). g.met.C.LineCore.keeps l.core w stream messages taken in
     record {
@@ -167,7 +166,7 @@ loop-total-preserved g c =
       empty = c.clear_printed.ensures.empty;
       goes = sym c.in-None.ensures;
       not_ended = subst NotSet (sym c.in-Got.ensures.reads.ends) l.invariant.not_ended;
-      stops = λ some. stops_here w (core.kept l.core w) (core.lines l.core) (core.done l.core) (core.total l.core) l.total input (g.S.Source.state l.input) (g.S.Source.state c.read.new.self) out (g.K.Sink.state l.out) l.invariant.at keeps l.invariant.goes l.invariant.not_ended c.loop-total-test.true c.read.ensures.reads.left_before c.read.ensures.reads.ended_before;
+      stops = λ some. stops_here w (core.kept l.core w) (core.lines l.core) (core.done l.core) (core.total l.core) l.total input (g.S.Source.state l.input) (g.S.Source.state c.read.new.input) out (g.K.Sink.state l.out) l.invariant.at keeps l.invariant.goes l.invariant.not_ended c.loop-total-test.true c.read.ensures.reads.left_before c.read.ensures.reads.ended_before;
       read_faults = c.in-Got.ensures.reads.counts ∙ l.invariant.read_faults;
       write_faults = c.if-not-write_all.ensures.counts ∙ l.invariant.write_faults;
     }

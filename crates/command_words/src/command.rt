@@ -1,0 +1,54 @@
+//! The commands.
+
+use message_codec::End;
+use share_base::ScreenName;
+
+/// A command of the program, with the words that it takes as they are.
+#[derive(Debug, Drop)]
+pub enum Command<'a> {
+    /// Frames of a server from standard input, as lines of injection.
+    Inject,
+    /// Frames of that end from standard input, as show lines.
+    Show(End),
+    /// The configuration in the file of that name, as its normal form.
+    Check(&'a str),
+    /// What a server of that configuration and that script logs while a trace drives it.
+    Replay {
+        /// The name of the configuration's file.
+        config: &'a str,
+        /// The name of the script's file.
+        script: &'a str,
+        /// The name of the trace's file.
+        trace: &'a str,
+    },
+    /// A server that listens at a port.
+    Serve {
+        /// The name of the configuration's file.
+        config: &'a str,
+        /// The name of the script's file.
+        script: &'a str,
+        /// The port, 0 for any that is free.
+        port: u16,
+        /// How often it waits at most.
+        turns: u32,
+    },
+    /// A client that connects to a server.
+    Join {
+        /// The screen's name.
+        name: ScreenName,
+        /// The server's host.
+        host: &'a str,
+        /// The server's port.
+        port: u16,
+        /// The screen's width in pixels, 1 to 32,767.
+        w: u16,
+        /// The screen's height in pixels, 1 to 32,767.
+        h: u16,
+        /// The name of the client script's file.
+        script: &'a str,
+        /// How often it waits at most.
+        turns: u32,
+    },
+    /// A server over the texts that the number makes, and a summary of its run.
+    Generate(u64),
+}

@@ -1,0 +1,13 @@
+//! The words that name a command of the program.
+//!
+//! It owns the commands with their words and numbers (`specs/Forms.antt`), and which words name which.
+//! What a command does, the crates above know.
+#![tactic(auto)]
+
+mod command;
+#[cfg(test)]
+mod tests;
+mod words;
+
+pub use command::Command;
+pub use words::form;

@@ -1,0 +1,10 @@
+//! A server that a trace drives.
+//!
+//! It owns the run of the server's loop over a hub in memory, and what such a run is
+//! (`specs/Replaying.antt`). It knows no files and no sockets.
+#![tactic(auto)]
+
+mod replay;
+
+pub use engine_loop::ServeEnd;
+pub use replay::replay;

@@ -1,0 +1,54 @@
+//! The run of a server over a trace.
+
+ghost use Rattle.std.specs.Prelude.{◌≡◌, ◌+◌, length};
+ghost use Rattle.script_screen.specs.Scripts.{ScreensBelow};
+ghost use Rattle.trace_replay.specs.Replaying.{Replayed, turns_of, is_turn};
+
+use engine_loop::{ServeEnd, serve};
+use hub_mem::MemoryHub;
+use screen_config::Config;
+use script_screen::{Script, Trace, TraceLine};
+use server_core::ServerCore;
+use share_base::Sink;
+use std::alloc::Global;
+
+fn is_turn(line: &TraceLine) -> bool
+    ensures { result ≡ is_turn line.now }
+{
+    matches!(line, TraceLine::Turn(_))
+}
+
+/// How many waits the loop makes at most: one more than the trace has turns.
+fn turns_of(trace: &Trace) -> u64
+    ensures { result ≡ turns_of trace.now }
+{
+    let lines = trace.lines();
+    let turns = lines.iter().filter(|line| is_turn(line)).count();
+    turns as u64 + 1
+}
+
+/// Runs a server of that configuration and script over the trace, and writes its log to `out`. Every
+/// screen of the script is one of the configuration.
+///
+/// It ends as `Quit` where the script has quit and every connection was closed, and as `Over` where
+/// the trace ended before that; as `WriteFault` where the output failed, and has a front of the log
+/// then.
+pub fn replay<K: Sink>(
+    alloc: Global,
+    config: Config,
+    script: Script,
+    trace: Trace,
+    out: &mut K,
+) -> ServeEnd
+    requires { ScreensBelow (length config.screens) script }
+    ensures { Replayed config script trace result (K.state out.old) (K.state out.new) }
+{
+    let turns = turns_of(&trace);
+    let Ok(mut hub) = MemoryHub::of_trace(alloc, trace, &[]) else {
+        return ServeEnd::OutOfMemory;
+    };
+    let Ok(mut core) = ServerCore::new(config, script, 0) else {
+        return ServeEnd::OutOfMemory;
+    };
+    serve(alloc, &mut core, &mut hub, out, turns)
+}
