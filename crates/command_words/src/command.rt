@@ -1,10 +1,9 @@
 //! The commands.
 
 use message_codec::End;
-use share_base::ScreenName;
 
 /// A command of the program, with the words that it takes as they are.
-#[derive(Debug, Drop)]
+#[derive(Clone, Copy, Debug, PartialEq, Eq)]
 pub enum Command<'a> {
     /// Frames of a server from standard input, as lines of injection.
     Inject,
@@ -21,34 +20,4 @@ pub enum Command<'a> {
         /// The name of the trace's file.
         trace: &'a str,
     },
-    /// A server that listens at a port.
-    Serve {
-        /// The name of the configuration's file.
-        config: &'a str,
-        /// The name of the script's file.
-        script: &'a str,
-        /// The port, 0 for any that is free.
-        port: u16,
-        /// How often it waits at most.
-        turns: u32,
-    },
-    /// A client that connects to a server.
-    Join {
-        /// The screen's name.
-        name: ScreenName,
-        /// The server's host.
-        host: &'a str,
-        /// The server's port.
-        port: u16,
-        /// The screen's width in pixels, 1 to 32,767.
-        w: u16,
-        /// The screen's height in pixels, 1 to 32,767.
-        h: u16,
-        /// The name of the client script's file.
-        script: &'a str,
-        /// How often it waits at most.
-        turns: u32,
-    },
-    /// A server over the texts that the number makes, and a summary of its run.
-    Generate(u64),
 }

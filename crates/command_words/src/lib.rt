@@ -1,6 +1,6 @@
 //! The words that name a command of the program.
 //!
-//! It owns the commands with their words and numbers (`specs/Forms.antt`), and which words name which.
+//! It owns the commands with their words (`specs/Forms.antt`), and which words name which.
 //! What a command does, the crates above know.
 #![tactic(auto)]
 
