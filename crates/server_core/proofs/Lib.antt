@@ -15,8 +15,6 @@ pub mod Farewells
 pub mod SlowFound
 pub mod Loops
 pub mod SlowTurns
-pub mod Passed
-pub mod JoinedScreens
 pub mod Timed
 pub mod DueOnes
 pub mod Come
@@ -27,7 +25,6 @@ pub mod Received
 pub mod Taken
 pub mod Closed
 pub mod Judged
-pub mod Indexed
 pub mod JoinedScreens
 pub mod Indexed
 pub mod ScriptLines
@@ -47,14 +44,6 @@ pub mod Grabbing
 pub mod TellOthers
 pub mod Options
 pub mod Dispatch
-pub mod Steady
-pub mod ScriptLines
-pub mod ScriptTurns
-pub mod Goodbyes
-pub mod ToldJoined
-pub mod Copies
-pub mod NextLine
-pub mod Sleeping
 pub mod Happened
 pub mod Offering
 pub mod ActedAll

@@ -27,7 +27,7 @@ use Rattle.server_core.specs.Promises.{IsStart, Runs, GoesOnRunning}
 line_buttons : (l : ScriptLine) → IsScriptLine l → pressed_by_line is_script_button (line_of l) ≡ true
 line_buttons (text.Sleep ms) h = refl
 line_buttons (text.Await screen) h = refl
-line_buttons (text.KeyDown id button) h = grind (arith, nat_tests, h.1.0, h.1.1)
+line_buttons (text.KeyDown id button) h = grind (arith, nat_tests, h.1, h.2)
 line_buttons (text.KeyRepeat count button) h = refl
 line_buttons (text.KeyUp button) h = refl
 line_buttons (text.ButtonDown b) h = refl
@@ -40,7 +40,7 @@ line_buttons text.Quit h = refl
 
 all_buttons : (above ls : List ScriptLine) → AreScriptLines above ls → list_all (pressed_by_line is_script_button) (map line_of ls) ≡ true
 all_buttons above [] h = refl
-all_buttons above (l ∷ ls) h = both (line_buttons l h.0) (all_buttons _ ls h.1.1)
+all_buttons above (l ∷ ls) h = both (line_buttons l h.0) (all_buttons _ ls h.2)
   where
     both : pressed_by_line is_script_button (line_of l) ≡ true → list_all (pressed_by_line is_script_button) (map line_of ls) ≡ true → (pressed_by_line is_script_button (line_of l) && list_all (pressed_by_line is_script_button) (map line_of ls)) ≡ true
     both one rest = ap (λ b. b && list_all (pressed_by_line is_script_button) (map line_of ls)) one ∙ rest

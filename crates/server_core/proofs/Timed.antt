@@ -1,8 +1,9 @@
 -- Timers that come to one connection after another.
-use Rattle.std.specs.Prelude.{◌≡◌, refl, ℕ, ◌+◌, ◌≤◌, List, [], ◌∷◌, length, map, take}
+use Rattle.std.specs.Prelude.{◌≡◌, refl, ℕ, ◌+◌, ◌<◌, ◌≤◌, nat_lt, true, false, List, [], ◌∷◌, length, map, take}
 use Rattle.std.specs.List.{slice_get}
 use Rattle.std.specs.Option.{option_map, option_to_list}
 use Rattle.std.proofs.Common.{arith, sym, ap, ◌∙◌, subst}
+use Rattle.std.proofs.lemmas.Bool.Decides.{nat_tests}
 use Rattle.std.proofs.lemmas.List.{take_all, length-map}
 use Rattle.std.proofs.lemmas.Option.{slice_get-map}
 use Rattle.hello_states.specs.declared.part_cause.PartCause.TheVariants as cause
@@ -68,3 +69,11 @@ pub timed-all : (old now : ServerCore) (t : Timer) (place count : ℕ) → place
 timed-all old now t place count end e so_far = λ b s h.
     let many : length (serials s.connections) ≤ place = let same = length-map s.connections (λ (c : Connection). c.serial) in let kept = pairs-length (StandsFor (around b s)) 0 old.table s.connections h.connections in omega arith in
     subst (λ ns. Stands b now (for_each ns (for_one t) s)) (take_all place (serials s.connections) many) (so_far b s h)
+
+-- ---- places of a list
+
+pub within-list : (i n : ℕ) → true ≡ nat_lt i n → i < n
+within-list i n h = let test : nat_lt i n ≡ true = sym h in grind (arith, nat_tests, test)
+
+pub past-list : (i n : ℕ) → false ≡ nat_lt i n → n ≤ i
+past-list i n h = let test : nat_lt i n ≡ false = sym h in grind (arith, nat_tests, test)

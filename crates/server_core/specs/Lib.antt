@@ -24,7 +24,4 @@ pub mod Using
 pub mod Accepting
 pub mod Joining
 pub mod Hearing
-pub mod Telling
-pub mod NextLine
-pub mod Goodbyes
 pub mod Departing

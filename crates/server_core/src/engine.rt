@@ -15,8 +15,11 @@ use share_base::OutOfMemory;
 
 impl Engine for ServerCore {
     ghost serves = { serves_in };
+
     ghost departs = { departs_in };
+
     ghost offered = { queued_in };
+
     ghost departing = { departs_too };
 
     /// Does what the machine does at that happening. A serial that joins is greater than all before,

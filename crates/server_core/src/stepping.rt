@@ -13,8 +13,8 @@ ghost use Rattle.server_core.specs.Driving.{serves_in};
 
 use crate::server::ServerCore;
 use crate::timers::Timer;
-use server_engine::Happening;
 use hello_states::PartCause;
+use server_engine::Happening;
 use share_base::OutOfMemory;
 
 /// Fewer bytes than these, 2^63, are given on a connection in all.

@@ -1,7 +1,7 @@
 use super::*;
-use server_engine::{Engine, Happening};
 use screen_config::Config;
 use script_screen::read_script;
+use server_engine::{Engine, Happening};
 use share_base::ScreenName;
 use std::alloc::Global;
 use std::test::*;

@@ -5,8 +5,8 @@ use Rattle.server_core.specs.Driving.{serves_in, departs_in}
 use Rattle.server_core.proofs.Driven.{serves-cleared, departs-cleared}
 use Rattle.server_core.proofs.engine.ServerCoreEngine.clear_log.Goals as goal
 
-pub returns-clause-serves_in : goal.returns-clause-serves_in
-returns-clause-serves_in c = subst (λ (text : List ℕ). ClearsLog serves_in c.args.self.now (record c.args.self.now { log = text })) (sym c.clear.ensures) (serves-cleared c.args.self.now)
+pub returns-clause-serves : goal.returns-clause-serves
+returns-clause-serves c = subst (λ (text : List ℕ). ClearsLog serves_in c.args.self.now (record c.args.self.now { log = text })) (sym c.clear.ensures) (serves-cleared c.args.self.now)
 
-pub returns-clause-departs_in : goal.returns-clause-departs_in
-returns-clause-departs_in c = subst (λ (text : List ℕ). ClearsLog departs_in c.args.self.now (record c.args.self.now { log = text })) (sym c.clear.ensures) (departs-cleared c.args.self.now)
+pub returns-clause-departs : goal.returns-clause-departs
+returns-clause-departs c = subst (λ (text : List ℕ). ClearsLog departs_in c.args.self.now (record c.args.self.now { log = text })) (sym c.clear.ensures) (departs-cleared c.args.self.now)

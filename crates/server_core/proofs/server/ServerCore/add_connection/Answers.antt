@@ -1,6 +1,5 @@
 use Rattle.std.proofs.Common.{◌∙◌}
 use Rattle.std.specs.Prelude.{[], ◌∷◌, ◌++◌}
-use Rattle.std.proofs.Common.{◌∙◌}
 use Rattle.machine.specs.Connections.{fresh}
 use Rattle.server_core.proofs.Added.{stands-added}
 use Rattle.server_core.proofs.server.ServerCore.add_connection.Goals as goal
