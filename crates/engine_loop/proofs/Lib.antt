@@ -1,0 +1,16 @@
+pub mod WatchFlags
+pub mod Totals
+pub mod OpenOnes
+pub mod MoreActs
+pub mod ReadActs
+pub mod WriteActs
+pub mod AcceptActs
+pub mod CloseActs
+pub mod WaitActs
+pub mod BusyOnes
+pub mod LeaveActs
+pub mod Phases
+pub mod LogWrites
+pub mod TurnSteps
+pub mod Departs
+pub mod Starts

@@ -1,0 +1,62 @@
+-- The phases of a turn, act by act.
+use Rattle.std.specs.Prelude.{◌≡◌, refl, ℕ, zero, suc, ◌+◌, ◌-◌, ◌<◌, ◌≤◌, Bool, true, false, List, [], ◌∷◌, get_or, take, drop, length, map, Contains, Result, Ok, Err, None}
+use Rattle.std.proofs.Common.{arith, ap, sym, subst, ◌∙◌}
+use Rattle.std.proofs.lemmas.Grind.{common_steps}
+use Rattle.std.proofs.lemmas.List.{drop_all}
+use Rattle.std.proofs.lemmas.List.Elements.{Contains-append_right}
+use Rattle.share_base.specs.declared.out_of_memory.OutOfMemory.{OutOfMemory}
+use Rattle.hub_acts.specs.Hubs.{HubState}
+use Rattle.machine.specs.Connections.{serials}
+use Rattle.machine.specs.States.{State}
+use Rattle.hub_acts.specs.declared.act.Act.{Act}
+use Rattle.attentive_acts.specs.Flags.{Flags}
+use Rattle.attentive_acts.specs.Places.{Place, at_reads, at_writes, at_closes, at_accepts}
+use Rattle.attentive_acts.specs.Judging.{Judge}
+use Rattle.engine_loop.specs.declared.watch.Watch.{Watch}
+use Rattle.engine_loop.specs.declared.watch.Stream.{Stream}
+use Rattle.engine_loop.specs.Watches.{serials_in, serial_of}
+use Rattle.engine_loop.specs.Stages.{Course, Stage, Cut, Is, Passes}
+use Rattle.engine_loop.proofs.MoreActs.{elsewhere}
+
+map_drop : (n : ℕ) (xs : List Stream) → drop n (map serial_of xs) ≡ map serial_of (drop n xs)
+map_drop zero xs = refl
+map_drop (suc n) [] = refl
+map_drop (suc n) (x ∷ xs) = map_drop n xs
+
+-- the first one of those that are left
+pub next-serial : (ts : List Stream) (ns : List ℕ) (i : ℕ) (t : Stream) → map serial_of ts ≡ ns → i < length ts → t ≡ get_or ts i t → drop i ns ≡ t.serial ∷ drop (i + 1) ns
+next-serial ts ns i t e lt is =
+    let whole : drop i ts ≡ get_or ts i t ∷ drop (i + 1) ts = grind (arith, common_steps, lt) in
+    let left : drop i ts ≡ t ∷ drop (i + 1) ts = whole ∙ ap (λ (x : Stream). x ∷ drop (i + 1) ts) (sym is) in
+    ap (drop i) (sym e) ∙ map_drop i ts ∙ ap (map serial_of) left ∙ ap (λ (xs : List ℕ). t.serial ∷ xs) (sym (map_drop (i + 1) ts) ∙ ap (drop (i + 1)) e)
+
+pub in-range : (ts us : List Stream) (i n : ℕ) → map serial_of ts ≡ map serial_of us → n ≡ length us → i < n → i < length ts
+in-range ts us i n e k lt =
+    let a : length (map serial_of ts) ≡ length ts = grind (arith, common_steps) in
+    let b : length (map serial_of us) ≡ length us = grind (arith, common_steps) in
+    let same = ap length e in
+    omega (arith, a, b, same, k, lt)
+
+pub none-left : (ns : List ℕ) (us : List Stream) (i n : ℕ) → ns ≡ map serial_of us → n ≡ length us → n ≤ i → drop i ns ≡ []
+none-left ns us i n e k le =
+    let b : length (map serial_of us) ≡ length us = grind (arith, common_steps) in
+    let same = ap length e in
+    drop_all i ns (omega (arith, b, same, k, le))
+
+pub has-serial : (ts : List Stream) (i : ℕ) (t : Stream) → i < length ts → t ≡ get_or ts i t → Contains (map serial_of ts) t.serial
+has-serial [] i t lt is = absurd (let x : ⊥ = omega (arith, lt) in x)
+has-serial (x ∷ xs) zero t lt is = (0, omega arith, ap serial_of (sym is))
+has-serial (x ∷ xs) (suc i) t lt is = Contains-append_right (x.serial ∷ []) (map serial_of xs) t.serial (has-serial xs i t (omega (arith, lt)) is)
+
+-- the same place by another name, as the connections are those that are watched
+pub from-reads : {E H : Type 0} (serves : E → List ℕ → State → Type 0) (state : H → HubState) (leads : H → H → Type 0) (r : Course H) (core : E) (hub : H) (watch : Watch)
+    → Stage serves state leads r core hub watch (Is (λ fs s. at_reads fs s (serials s.connections))) → Stage serves state leads r core hub watch (Is (λ fs s. at_reads fs s (serials_in watch)))
+from-reads serves state leads r core hub watch st =
+    elsewhere serves state leads r core hub watch (Is (λ fs s. at_reads fs s (serials s.connections))) (Is (λ fs s. at_reads fs s (serials_in watch))) st
+    (st.there ∙ ap (at_reads st.judge.flags st.judge.state) (sym st.watched))
+
+pub from-writes : {E H : Type 0} (serves : E → List ℕ → State → Type 0) (state : H → HubState) (leads : H → H → Type 0) (r : Course H) (core : E) (hub : H) (watch : Watch)
+    → Stage serves state leads r core hub watch (Is (λ fs s. at_writes fs s (serials s.connections))) → Stage serves state leads r core hub watch (Is (λ fs s. at_writes fs s (serials_in watch)))
+from-writes serves state leads r core hub watch st =
+    elsewhere serves state leads r core hub watch (Is (λ fs s. at_writes fs s (serials s.connections))) (Is (λ fs s. at_writes fs s (serials_in watch))) st
+    (st.there ∙ ap (at_writes st.judge.flags st.judge.state) (sym st.watched))

@@ -1,0 +1,5 @@
+pub mod Watches
+pub mod Stages
+pub mod Turns
+pub mod Ends
+pub mod Serving
