@@ -2,7 +2,6 @@ use super::*;
 use screen_config::Config;
 use script_screen::read_script;
 use share_base::ScreenName;
-use std::alloc::Global;
 use std::test::*;
 
 const SCRIPT: &[u8] = b"primary desk 1920 1080\n\
@@ -27,18 +26,24 @@ const LOG: &[u8] = b"local saver on\n\
     local move 950 545\n\
     local wheel 0 -120\n";
 
-fn desk(alloc: Global) -> Result<Config, Fail> {
-    let mut config = Config::new(alloc);
-    let Some(name) = ScreenName::read(b"desk") else {
+fn add_screen(config: &mut Config, name: &[u8]) -> Result<(), Fail> {
+    if config.count() >= 64 {
+        return Err(Fail::new("a 65th screen"));
+    }
+    let None = config.find(name) else {
+        return Err(Fail::new("a screen of that name"));
+    };
+    let Some(name) = ScreenName::read(name) else {
         return Err(Fail::new("no name"));
     };
     config.add_screen(name)?;
-    Ok(config)
+    Ok(())
 }
 
 #[test]
 fn a_script_runs_until_it_sleeps(rt: HostRuntime) -> Result<(), Fail> {
-    let config = desk(rt.alloc())?;
+    let mut config = Config::new(rt.alloc());
+    add_screen(&mut config, b"desk")?;
     let script = match read_script(rt.alloc(), SCRIPT, &config) {
         Ok(script) => script,
         Err(_) => return Err(Fail::new("no script")),
