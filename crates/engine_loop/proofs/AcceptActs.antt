@@ -1,5 +1,5 @@
 -- An accept that was due, with each answer.
-use Rattle.std.specs.Prelude.{◌≡◌, refl, ℕ, ◌+◌, ◌-◌, ◌<◌, Bool, true, false, ◌&&◌, nat_lt, cond, List, [], ◌∷◌, ◌++◌, sum_by, Some}
+use Rattle.std.specs.Prelude.{◌≡◌, refl, ℕ, ◌+◌, ◌-◌, ◌<◌, Bool, true, false, ◌&&◌, nat_lt, cond, List, sum_by, Some}
 use Rattle.std.proofs.Common.{arith, ap, sym, subst, ◌∙◌}
 use Rattle.std.proofs.lemmas.Bool.Decides.{nat_tests}
 use Rattle.hub_acts.specs.declared.act.Act.{Act}
@@ -17,7 +17,7 @@ use Rattle.machine.specs.Happenings as machine
 use Rattle.reached_states.specs.Reaching.{Origin, Reached}
 use Rattle.reached_states.proofs.NewSerials.{new-is-untold}
 use Rattle.attentive_acts.specs.Telling.{state_after}
-use Rattle.attentive_acts.specs.Flags.{Flags, flags_with, with_listens, is_listening}
+use Rattle.attentive_acts.specs.Flags.{Flags, flags_with, is_listening}
 use Rattle.attentive_acts.specs.Places.{Place, Accepts, at_accepts, at_reads, place_after, after_accept}
 use Rattle.attentive_acts.specs.Judging.{Judge, Allows, AllowsAt, judge_after}
 use Rattle.engine_loop.specs.declared.watch.Watch.{Watch}

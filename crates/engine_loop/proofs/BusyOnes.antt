@@ -1,15 +1,13 @@
 -- What is undrained before a wait.
-use Rattle.std.specs.Prelude.{◌≡◌, refl, ℕ, ◌+◌, ◌<◌, ◌≤◌, Bool, true, false, not, nat_le, min, ◌-◌, ◌&&◌, ◌||◌, ◌==◌, cond, List, [], ◌∷◌, ◌++◌, length, map, take, get_or}
+use Rattle.std.specs.Prelude.{◌≡◌, refl, ℕ, ◌+◌, ◌<◌, Bool, true, false, not, nat_le, min, ◌-◌, ◌&&◌, ◌||◌, ◌==◌, cond, List, [], ◌∷◌, ◌++◌, length, take, get_or}
 use Rattle.std.specs.List.{list_any}
 use Rattle.std.proofs.Common.{arith, ap, sym, subst, ◌∙◌}
 use Rattle.std.proofs.lemmas.Bool.Decides.{nat_tests}
-use Rattle.std.proofs.lemmas.Grind.{common_steps}
-use Rattle.std.proofs.lemmas.List.{take_all, take_more, get_or_default}
+use Rattle.std.proofs.lemmas.List.{take_more}
 use Rattle.std.proofs.lemmas.List.Folds.{list_any-append, list_any_at}
 use Rattle.machine.specs.States.{State}
-use Rattle.machine.specs.Readings.{accepts, reads}
 use Rattle.machine.specs.Queues.{total}
-use Rattle.attentive_acts.specs.Flags.{Flag, Flags, has_flag, has_more, is_busy, is_listening, is_readable, is_writable}
+use Rattle.attentive_acts.specs.Flags.{Flag, Flags, is_busy, is_listening, is_readable, is_writable}
 use Rattle.engine_loop.specs.declared.watch.Stream.{Stream}
 use Rattle.engine_loop.specs.declared.watch.Watch.{Watch}
 use Rattle.server_engine.specs.Engines.{AreNext}

@@ -1,5 +1,5 @@
 -- The closing of a connection that was to be closed.
-use Rattle.std.specs.Prelude.{◌≡◌, refl, ℕ, ◌+◌, ◌<◌, ◌≤◌, Bool, true, false, not, ◌==◌, cond, List, [], ◌∷◌, ◌++◌, length, take, drop, get_or, filter, map, Contains, Option, Some, None, is_some}
+use Rattle.std.specs.Prelude.{◌≡◌, refl, ℕ, ◌+◌, ◌<◌, ◌≤◌, Bool, false, not, ◌==◌, cond, List, [], ◌∷◌, ◌++◌, length, take, drop, get_or, filter, Contains, Option, None, is_some}
 use Rattle.std.specs.List.{find}
 use Rattle.std.specs.Option.{option_map}
 use Rattle.std.proofs.Common.{arith, ap, sym, subst, ◌∙◌}
@@ -11,20 +11,18 @@ use Rattle.std.proofs.lemmas.List.Elements.{filter-append}
 use Rattle.hub_acts.specs.declared.act.Act.{Act}
 use Rattle.hub_acts.specs.declared.act.Act.TheVariants as act
 use Rattle.hub_acts.specs.Hubs.{HubState}
-use Rattle.machine.specs.Connections.{Connection, serials, with_serial, has_serial}
+use Rattle.machine.specs.Connections.{Connection, serials}
 use Rattle.machine.specs.States.{State}
 use Rattle.machine.specs.Queues.{total}
 use Rattle.machine.specs.Readings.{closing, is_to_close}
 use Rattle.machine.specs.Happenings.{IsOpen}
 use Rattle.machine.specs.Happenings as machine
 use Rattle.reached_states.specs.Reaching.{Origin, Reached}
-use Rattle.reached_states.proofs.OpenAfter.{closing-is-open}
 use Rattle.attentive_acts.specs.Telling.{state_after}
-use Rattle.attentive_acts.specs.Flags.{Flags, flags_with}
 use Rattle.attentive_acts.specs.Places.{Place, Closes, at_closes, at_turn_end, place_after}
-use Rattle.attentive_acts.specs.Judging.{Judge, Allows, AllowsAt, judge_after}
+use Rattle.attentive_acts.specs.Judging.{Judge, AllowsAt, judge_after}
 use Rattle.engine_loop.specs.declared.watch.Watch.{Watch}
-use Rattle.engine_loop.specs.Watches.{flags_of, serials_in, without}
+use Rattle.engine_loop.specs.Watches.{without}
 use Rattle.engine_loop.specs.Stages.{Course, Stage, Cut, Is, IsToClose, IsTurned}
 use Rattle.engine_loop.proofs.WatchFlags.{closes-flags, closes-serials, closes-seen}
 use Rattle.engine_loop.proofs.MoreActs.{Acted, IsTransitive, Moves, moves-by, stage-more, cut-more, elsewhere}

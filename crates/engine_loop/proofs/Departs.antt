@@ -2,13 +2,11 @@
 use Rattle.std.specs.Prelude.{◌≡◌, refl, ℕ, ◌≤◌, Bool, true, false, List, [], ◌++◌, Option, Some, None, Ok, Err}
 use Rattle.std.proofs.Common.{arith, ap, sym, subst, ◌∙◌, append_assoc}
 use Rattle.std.proofs.lemmas.List.{append-nil}
-use Rattle.share_base.specs.Fronts.{IsFront}
 use Rattle.share_base.specs.Writing.{SinkState}
 use Rattle.share_base.proofs.ToldLists.{after-nil}
 use Rattle.hub_acts.specs.declared.act.Act.{Act}
 use Rattle.hub_acts.specs.Counting.{Counts}
 use Rattle.hub_acts.specs.Hubs.{HubState}
-use Rattle.machine.specs.Connections.{serials}
 use Rattle.machine.specs.States.{State}
 use Rattle.machine.specs.Logs.{log_text}
 use Rattle.reached_states.specs.OpenSerials.{Rise}
@@ -21,7 +19,7 @@ use Rattle.engine_loop.specs.declared.serve_end.ServeEnd.TheVariants as ends
 use Rattle.engine_loop.specs.declared.watch.Watch.{Watch}
 use Rattle.engine_loop.specs.Watches.{serials_in}
 use Rattle.engine_loop.specs.Stages.{Course, Stage, Made, waits_in, known_with}
-use Rattle.engine_loop.specs.Turns.{Wrote, LogsOn, Logged, Faulted, CutShort, with_front}
+use Rattle.engine_loop.specs.Turns.{Wrote, LogsOn, with_front}
 use Rattle.engine_loop.specs.Ends.{Departing, LeftShort, EndsBy, AfterTurns, GoesOn, is_failure}
 use Rattle.engine_loop.specs.Serving.{Serves, HubCounts, LogsTo, IsWhole, IsIn}
 use Rattle.engine_loop.proofs.TurnSteps.{wrote_more, failed_more}

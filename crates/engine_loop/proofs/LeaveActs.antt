@@ -1,11 +1,10 @@
 -- The closings at the end of a run.
-use Rattle.std.specs.Prelude.{◌≡◌, refl, ℕ, zero, suc, ◌+◌, ◌<◌, ◌≤◌, Bool, true, false, not, ◌==◌, cond, List, [], ◌∷◌, ◌++◌, drop, filter, Contains, Some}
+use Rattle.std.specs.Prelude.{◌≡◌, refl, ℕ, zero, suc, ◌<◌, ◌≤◌, Bool, true, false, not, ◌==◌, cond, List, [], ◌∷◌, ◌++◌, drop, filter, Contains, Some}
 use Rattle.std.proofs.Common.{arith, ap, sym, subst, ◌∙◌}
 use Rattle.std.proofs.lemmas.Bool.Decides.{nat_tests}
 use Rattle.share_base.specs.Fronts.{IsFront}
-use Rattle.hub_acts.specs.declared.act.Act.{Act}
 use Rattle.hub_acts.specs.declared.act.Act.TheVariants as act
-use Rattle.hub_acts.specs.Counting.{Counts, is_fault}
+use Rattle.hub_acts.specs.Counting.{Counts}
 use Rattle.hub_acts.specs.Hubs.{HubState, HubCalls}
 use Rattle.machine.specs.Connections.{serials}
 use Rattle.machine.specs.States.{State}
@@ -14,10 +13,9 @@ use Rattle.machine.specs.Happenings.{IsOpen}
 use Rattle.machine.specs.Happenings as machine
 use Rattle.machine.specs.Steps.{step}
 use Rattle.reached_states.specs.OpenSerials.{Rise}
-use Rattle.reached_states.specs.Reaching.{Reached}
 use Rattle.reached_states.proofs.Rising.{serials-rise}
-use Rattle.attentive_acts.specs.Places.{Place, Leaves, place_after}
-use Rattle.attentive_acts.specs.Judging.{Judge, Allows, AllowsAt, judge_after, leaving}
+use Rattle.attentive_acts.specs.Places.{Place, place_after}
+use Rattle.attentive_acts.specs.Judging.{Judge, AllowsAt, judge_after, leaving}
 use Rattle.engine_loop.specs.declared.serve_end.ServeEnd.{ServeEnd}
 use Rattle.server_engine.specs.Engines.{Steps}
 use Rattle.engine_loop.specs.Stages.{Course, Made}

@@ -1,13 +1,12 @@
 -- The log that is written after a step.
-use Rattle.std.specs.Prelude.{◌≡◌, refl, ℕ, ◌≤◌, Bool, true, false, List, ◌++◌, length, take, drop, Ok, Err}
-use Rattle.std.proofs.Common.{arith, ap, sym, subst, ◌∙◌, append_assoc}
+use Rattle.std.specs.Prelude.{◌≡◌, ℕ, true, false, List, ◌++◌, length, take, drop, Ok, Err}
+use Rattle.std.proofs.Common.{arith, ap, sym, ◌∙◌, append_assoc}
 use Rattle.std.proofs.lemmas.List.{take_all, take-append-drop}
 use Rattle.share_base.specs.Fronts.{IsFront}
 use Rattle.share_base.specs.Writing.{SinkState, WritesAll}
 use Rattle.share_base.proofs.Fronts.{front_of_longer}
 use Rattle.machine.specs.States.{State}
 use Rattle.machine.specs.Logs.{log_text}
-use Rattle.reached_states.specs.Reaching.{Origin, Reached}
 use Rattle.engine_loop.specs.declared.serve_end.ServeEnd.TheVariants as ends
 use Rattle.server_engine.specs.Engines.{Logs, ClearsLog}
 use Rattle.engine_loop.specs.Turns.{LogsOn}

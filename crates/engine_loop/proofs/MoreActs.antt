@@ -1,6 +1,5 @@
 -- One more act: where a stage or a cut leads.
-use Rattle.std.specs.Prelude.{◌≡◌, refl, ℕ, ◌+◌, ◌≤◌, Bool, true, false, cond, List, [], ◌∷◌, ◌++◌, length, take, drop, count_by, Option, Some, None, Result, Ok, Err, IsErr}
-use Rattle.std.specs.Option.{option_map}
+use Rattle.std.specs.Prelude.{◌≡◌, refl, ℕ, ◌+◌, ◌≤◌, Bool, false, cond, List, [], ◌∷◌, ◌++◌, length, take, Option, Some, None, Result, Ok, Err, IsErr}
 use Rattle.std.proofs.Common.{arith, ap, sym, subst, ◌∙◌, append_assoc}
 use Rattle.std.proofs.lemmas.List.{take-take, take_all, length-take}
 use Rattle.std.proofs.lemmas.List.Sums.{sum_by_push}
@@ -8,7 +7,7 @@ use Rattle.share_base.specs.declared.out_of_memory.OutOfMemory.{OutOfMemory}
 use Rattle.share_base.specs.Fronts.{IsFront}
 use Rattle.hub_acts.specs.declared.act.Act.{Act}
 use Rattle.hub_acts.specs.Acts.{known_after}
-use Rattle.hub_acts.specs.Counting.{Counts, is_fault, counts_in, latest_with, open_with}
+use Rattle.hub_acts.specs.Counting.{Counts, is_fault, latest_with, open_with}
 use Rattle.hub_acts.specs.Hubs.{HubState, HubCalls}
 use Rattle.machine.specs.Connections.{serials}
 use Rattle.machine.specs.States.{State}
@@ -16,14 +15,14 @@ use Rattle.machine.specs.Queues.{total}
 use Rattle.machine.specs.Logs.{log_text}
 use Rattle.machine.specs.Happenings.{Happening, IsAllowed, latest_after}
 use Rattle.machine.specs.Steps.{step}
-use Rattle.reached_states.specs.Reaching.{Origin, Reached, start_of}
+use Rattle.reached_states.specs.Reaching.{Origin, Reached}
 use Rattle.reached_states.specs.OpenSerials.{serials_after}
 use Rattle.reached_states.proofs.Reaching.{goes-on}
 use Rattle.reached_states.proofs.OpenAfter.{open-after}
 use Rattle.reached_states.proofs.GrowingLog.{log-grows}
-use Rattle.attentive_acts.specs.Telling.{happening_of, state_after, step_if}
-use Rattle.attentive_acts.specs.Flags.{Flags, flags_with, flags_after}
-use Rattle.attentive_acts.specs.Judging.{Judge, Allows, Follows, judged, judge_after, first_judge}
+use Rattle.attentive_acts.specs.Telling.{state_after}
+use Rattle.attentive_acts.specs.Flags.{flags_with}
+use Rattle.attentive_acts.specs.Judging.{Judge, Allows, Follows, judged, judge_after}
 use Rattle.engine_loop.specs.declared.watch.Watch.{Watch}
 use Rattle.engine_loop.specs.Watches.{flags_of, serials_in, AreSeen}
 use Rattle.engine_loop.specs.Stages.{Made, Course, Stage, Cut, After, first_of, is_wait, waits_in, known_with}

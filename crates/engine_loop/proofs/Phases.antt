@@ -1,21 +1,17 @@
 -- The phases of a turn, act by act.
-use Rattle.std.specs.Prelude.{◌≡◌, refl, ℕ, zero, suc, ◌+◌, ◌-◌, ◌<◌, ◌≤◌, Bool, true, false, List, [], ◌∷◌, get_or, take, drop, length, map, Contains, Result, Ok, Err, None}
-use Rattle.std.proofs.Common.{arith, ap, sym, subst, ◌∙◌}
+use Rattle.std.specs.Prelude.{◌≡◌, refl, ℕ, zero, suc, ◌+◌, ◌<◌, ◌≤◌, List, [], ◌∷◌, get_or, drop, length, map, Contains}
+use Rattle.std.proofs.Common.{arith, ap, sym, ◌∙◌}
 use Rattle.std.proofs.lemmas.Grind.{common_steps}
 use Rattle.std.proofs.lemmas.List.{drop_all}
 use Rattle.std.proofs.lemmas.List.Elements.{Contains-append_right}
-use Rattle.share_base.specs.declared.out_of_memory.OutOfMemory.{OutOfMemory}
 use Rattle.hub_acts.specs.Hubs.{HubState}
 use Rattle.machine.specs.Connections.{serials}
 use Rattle.machine.specs.States.{State}
-use Rattle.hub_acts.specs.declared.act.Act.{Act}
-use Rattle.attentive_acts.specs.Flags.{Flags}
-use Rattle.attentive_acts.specs.Places.{Place, at_reads, at_writes, at_closes, at_accepts}
-use Rattle.attentive_acts.specs.Judging.{Judge}
+use Rattle.attentive_acts.specs.Places.{at_reads, at_writes}
 use Rattle.engine_loop.specs.declared.watch.Watch.{Watch}
 use Rattle.engine_loop.specs.declared.watch.Stream.{Stream}
 use Rattle.engine_loop.specs.Watches.{serials_in, serial_of}
-use Rattle.engine_loop.specs.Stages.{Course, Stage, Cut, Is, Passes}
+use Rattle.engine_loop.specs.Stages.{Course, Stage, Is}
 use Rattle.engine_loop.proofs.MoreActs.{elsewhere}
 
 map_drop : (n : ℕ) (xs : List Stream) → drop n (map serial_of xs) ≡ map serial_of (drop n xs)

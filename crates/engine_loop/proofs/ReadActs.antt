@@ -1,5 +1,5 @@
 -- A read that was due, with each answer.
-use Rattle.std.specs.Prelude.{◌≡◌, refl, ℕ, ◌+◌, ◌≤◌, Bool, true, false, ◌&&◌, cond, List, [], ◌∷◌, ◌++◌, length, take, Option, Some, None, is_some}
+use Rattle.std.specs.Prelude.{◌≡◌, refl, ℕ, Bool, true, false, ◌&&◌, cond, List, [], ◌∷◌, length, take, Option, Some, None, is_some}
 use Rattle.std.specs.Option.{option_map_or}
 use Rattle.std.proofs.Common.{arith, ap, sym, subst, ◌∙◌}
 use Rattle.std.proofs.lemmas.List.{length-take}
@@ -8,17 +8,16 @@ use Rattle.hub_acts.specs.declared.act.Act.TheVariants as act
 use Rattle.hub_acts.specs.declared.answers.ReadAnswer.{ReadAnswer}
 use Rattle.hub_acts.specs.declared.answers.ReadAnswer.TheVariants as read
 use Rattle.hub_acts.specs.Hubs.{HubState, HubCalls, FitsRead}
-use Rattle.machine.specs.Connections.{Connection, serials, is_live}
+use Rattle.machine.specs.Connections.{Connection, is_live}
 use Rattle.machine.specs.States.{State}
 use Rattle.machine.specs.Screens.{connection, lives}
 use Rattle.machine.specs.Queues.{total}
 use Rattle.machine.specs.Readings.{reads}
 use Rattle.machine.specs.Happenings.{IsOpen}
 use Rattle.machine.specs.Happenings as machine
-use Rattle.machine.specs.Steps.{step}
 use Rattle.reached_states.specs.Reaching.{Reached}
 use Rattle.attentive_acts.specs.Telling.{state_after}
-use Rattle.attentive_acts.specs.Flags.{Flags, flags_with, flags_after, has_flag, is_readable}
+use Rattle.attentive_acts.specs.Flags.{Flags, flags_with, has_flag, is_readable}
 use Rattle.attentive_acts.specs.Places.{Place, Reads, at_reads, place_after}
 use Rattle.attentive_acts.specs.Judging.{Judge, Allows, AllowsAt, HasBytes, judge_after, most_moved}
 use Rattle.engine_loop.specs.declared.watch.Watch.{Watch}

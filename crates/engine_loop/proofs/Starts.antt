@@ -1,5 +1,5 @@
 -- How the turns begin, and go on.
-use Rattle.std.specs.Prelude.{◌≡◌, refl, ℕ, ◌+◌, ◌<◌, ◌≤◌, Bool, true, false, List, [], map, Result, Ok, Err}
+use Rattle.std.specs.Prelude.{◌≡◌, refl, ℕ, ◌+◌, ◌<◌, Bool, true, false, List, [], map, Err}
 use Rattle.std.proofs.Common.{arith, ap, sym, subst, ◌∙◌}
 use Rattle.share_base.specs.Writing.{SinkState}
 use Rattle.share_base.proofs.ToldLists.{after-nil}
@@ -13,9 +13,9 @@ use Rattle.engine_loop.specs.declared.serve_end.ServeEnd.{ServeEnd}
 use Rattle.engine_loop.specs.declared.serve_end.ServeEnd.TheVariants as ends
 use Rattle.engine_loop.specs.declared.watch.Stream.{Stream}
 use Rattle.engine_loop.specs.declared.watch.Watch.{Watch}
-use Rattle.engine_loop.specs.Watches.{flags_of, serials_in, AreSeen, flag_of, serial_of}
-use Rattle.engine_loop.specs.Stages.{Course, Stage, IsWaiting}
-use Rattle.engine_loop.specs.Turns.{Logged, Ended, AfterTurn, waited_once, with_front, Wrote}
+use Rattle.engine_loop.specs.Watches.{flags_of, AreSeen, flag_of, serial_of}
+use Rattle.engine_loop.specs.Stages.{Course, IsWaiting}
+use Rattle.engine_loop.specs.Turns.{Logged, Ended, AfterTurn, waited_once}
 use Rattle.engine_loop.specs.Ends.{AfterTurns}
 use Rattle.engine_loop.specs.Serving.{IsNewHub}
 use Rattle.engine_loop.proofs.Departs.{made-none}

@@ -1,10 +1,9 @@
 -- A step of a turn, with the log that is written after it.
-use Rattle.std.specs.Prelude.{◌≡◌, refl, ℕ, ◌+◌, ◌≤◌, Bool, true, false, cond, List, [], ◌++◌, length, take, Option, Result, Ok, Err, IsErrAnd}
+use Rattle.std.specs.Prelude.{◌≡◌, ℕ, Bool, true, false, cond, List, [], ◌++◌, length, Option, Result, Ok, Err, IsErrAnd}
 use Rattle.std.proofs.Common.{arith, ap, sym, subst, ◌∙◌}
 use Rattle.std.proofs.lemmas.List.{take_all}
 use Rattle.share_base.specs.declared.out_of_memory.OutOfMemory.{OutOfMemory}
 use Rattle.share_base.specs.Counts.{Rises}
-use Rattle.share_base.specs.Fronts.{IsFront}
 use Rattle.share_base.specs.Told.{after}
 use Rattle.share_base.specs.Writing.{SinkState}
 use Rattle.share_base.proofs.ToldLists.{after-after}
@@ -21,7 +20,7 @@ use Rattle.engine_loop.specs.declared.serve_end.ServeEnd.{ServeEnd}
 use Rattle.engine_loop.specs.declared.serve_end.ServeEnd.TheVariants as ends
 use Rattle.engine_loop.specs.declared.watch.Watch.{Watch}
 use Rattle.engine_loop.specs.Stages.{Course, Stage, Cut, Is, IsTurned, IsWaiting, Passes}
-use Rattle.engine_loop.specs.Turns.{Wrote, Failed, Logged, Faulted, CutShort, Ended, AfterLog, LogsOn, Heeds, EndsAtFailure, AfterTurn, AfterWait, HasQuit, with_front, waited_once, IsAny}
+use Rattle.engine_loop.specs.Turns.{Wrote, Failed, Logged, AfterLog, Heeds, EndsAtFailure, AfterTurn, AfterWait, HasQuit, with_front, waited_once, IsAny}
 use Rattle.engine_loop.specs.Ends.{GoesOn, GoesOnAfter}
 use Rattle.engine_loop.proofs.MoreActs.{elsewhere}
 

@@ -1,5 +1,5 @@
 -- A wait, with each answer; and the moment that is asked for after it.
-use Rattle.std.specs.Prelude.{◌≡◌, refl, ℕ, ◌+◌, ◌≤◌, ◌<◌, Bool, true, false, cond, List, [], ◌∷◌, ◌++◌, length, fold, Some, None}
+use Rattle.std.specs.Prelude.{◌≡◌, refl, ℕ, ◌+◌, ◌<◌, Bool, true, false, cond, List, [], ◌∷◌, ◌++◌, length, fold, Some, None}
 use Rattle.std.proofs.Common.{arith, ap, sym, subst, ◌∙◌}
 use Rattle.std.proofs.lemmas.Grind.{common_steps}
 use Rattle.std.proofs.lemmas.List.Sums.{sum_by_push}
@@ -8,10 +8,9 @@ use Rattle.hub_acts.specs.declared.act.Act.TheVariants as act
 use Rattle.hub_acts.specs.declared.answers.Waited.{Waited}
 use Rattle.hub_acts.specs.declared.answers.Waited.TheVariants as waited
 use Rattle.hub_acts.specs.declared.marks.Mark.{Mark}
-use Rattle.hub_acts.specs.Acts.{known_after}
 use Rattle.hub_acts.specs.Counting.{Counts, is_fault}
 use Rattle.hub_acts.specs.Hubs.{HubState, HubCalls}
-use Rattle.machine.specs.Connections.{Connection, serials}
+use Rattle.machine.specs.Connections.{serials}
 use Rattle.machine.specs.States.{State}
 use Rattle.machine.specs.Queues.{total}
 use Rattle.machine.specs.Readings.{closing}
@@ -19,9 +18,9 @@ use Rattle.machine.specs.Happenings as machine
 use Rattle.reached_states.specs.Reaching.{Origin, Reached}
 use Rattle.reached_states.proofs.FewOpen.{few-are-open}
 use Rattle.attentive_acts.specs.Telling.{state_after}
-use Rattle.attentive_acts.specs.Flags.{Flags, flags_with, with_mark}
-use Rattle.attentive_acts.specs.Places.{Place, Asks, Leaves, at_accepts, most_accepts, place_after, after_wait}
-use Rattle.attentive_acts.specs.Judging.{Judge, Allows, AllowsAt, timeout, judge_after}
+use Rattle.attentive_acts.specs.Flags.{flags_with, with_mark}
+use Rattle.attentive_acts.specs.Places.{Place, Asks, at_accepts, most_accepts, place_after}
+use Rattle.attentive_acts.specs.Judging.{Judge, AllowsAt, timeout, judge_after}
 use Rattle.engine_loop.specs.declared.watch.Watch.{Watch}
 use Rattle.engine_loop.specs.Watches.{flags_of, serials_in, AreSeen, Sets}
 use Rattle.engine_loop.specs.Stages.{Course, Stage, Cut, Is, IsWaiting, first_of, is_wait, waits_in}

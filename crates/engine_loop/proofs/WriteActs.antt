@@ -1,5 +1,5 @@
 -- A write that was due, with each answer.
-use Rattle.std.specs.Prelude.{◌≡◌, refl, ℕ, ◌+◌, ◌≤◌, ◌<◌, min, Bool, true, false, ◌&&◌, ◌==◌, cond, List, [], ◌∷◌, ◌++◌, length, take, Contains, Option, Some, None, is_some}
+use Rattle.std.specs.Prelude.{◌≡◌, refl, ℕ, ◌≤◌, ◌<◌, min, Bool, true, false, ◌&&◌, ◌==◌, cond, List, ◌∷◌, length, take, Contains, Option, Some, None, is_some}
 use Rattle.std.specs.Option.{option_map_or}
 use Rattle.std.proofs.Common.{arith, ap, sym, subst, ◌∙◌, inl}
 use Rattle.std.proofs.lemmas.Bool.Decides.{nat_tests}
@@ -9,17 +9,16 @@ use Rattle.hub_acts.specs.declared.act.Act.TheVariants as act
 use Rattle.hub_acts.specs.declared.answers.WriteAnswer.{WriteAnswer}
 use Rattle.hub_acts.specs.declared.answers.WriteAnswer.TheVariants as written
 use Rattle.hub_acts.specs.Hubs.{HubState, HubCalls, FitsWrite}
-use Rattle.machine.specs.Connections.{Connection, serials}
+use Rattle.machine.specs.Connections.{Connection}
 use Rattle.machine.specs.States.{State}
 use Rattle.machine.specs.Screens.{connection, has_untaken, taken_by}
 use Rattle.machine.specs.Queues.{total, queue}
 use Rattle.machine.specs.Happenings.{IsOpen}
 use Rattle.machine.specs.Happenings as machine
-use Rattle.reached_states.specs.Reaching.{Reached}
 use Rattle.attentive_acts.specs.Telling.{state_after}
 use Rattle.attentive_acts.specs.Flags.{Flags, flags_with, has_flag, has_more, is_writable}
 use Rattle.attentive_acts.specs.Places.{Place, Writes, at_writes, place_after}
-use Rattle.attentive_acts.specs.Judging.{Judge, Allows, AllowsAt, IsPiece, judge_after, most_moved, untaken}
+use Rattle.attentive_acts.specs.Judging.{Judge, Allows, AllowsAt, IsPiece, judge_after, untaken}
 use Rattle.engine_loop.specs.declared.watch.Watch.{Watch}
 use Rattle.engine_loop.specs.declared.watch.Change.TheVariants.{WritesDrained}
 use Rattle.server_engine.specs.Engines.{AreNext, Steps, Offers, Counts as Counting}

@@ -1,8 +1,7 @@
 -- What a run of the loop makes of its engine, its hub and its sink.
-use Rattle.std.specs.Prelude.{◌≡◌, ℕ, ◌≤◌, Bool, true, false, List, [], ◌++◌}
+use Rattle.std.specs.Prelude.{◌≡◌, ℕ, ◌≤◌, List, [], ◌++◌}
 use Rattle.share_base.specs.Counts.{Rises}
 use Rattle.share_base.specs.Fronts.{IsFront}
-use Rattle.share_base.specs.Told.{after}
 use Rattle.share_base.specs.Writing.{SinkState}
 use Rattle.hub_acts.specs.declared.act.Act.{Act}
 use Rattle.hub_acts.specs.Hubs.{HubState}

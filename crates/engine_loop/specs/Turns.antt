@@ -1,5 +1,5 @@
 -- What a turn of the loop leads to.
-use Rattle.std.specs.Prelude.{◌≡◌, ℕ, ◌+◌, Bool, true, false, List, ◌++◌, ◌∷◌, [], Option, Some, None, Result, Ok, Err}
+use Rattle.std.specs.Prelude.{◌≡◌, ℕ, ◌+◌, Bool, true, false, List, ◌++◌, ◌∷◌, [], Result, Ok, Err}
 use Rattle.share_base.specs.declared.out_of_memory.OutOfMemory.{OutOfMemory}
 use Rattle.share_base.specs.Counts.{Rises}
 use Rattle.share_base.specs.Fronts.{IsFront}
@@ -9,7 +9,6 @@ use Rattle.hub_acts.specs.declared.act.Act.{Act}
 use Rattle.hub_acts.specs.declared.act.Act.TheVariants as act
 use Rattle.hub_acts.specs.declared.answers.Waited.{Waited}
 use Rattle.hub_acts.specs.declared.answers.Waited.TheVariants as waited
-use Rattle.hub_acts.specs.declared.marks.Mark.{Mark}
 use Rattle.hub_acts.specs.Hubs.{HubState}
 use Rattle.machine.specs.Connections.{serials}
 use Rattle.machine.specs.States.{State}
@@ -17,12 +16,11 @@ use Rattle.machine.specs.Logs.{log_text}
 use Rattle.machine.specs.Readings.{is_over}
 use Rattle.reached_states.specs.Reaching.{Origin, Reached}
 use Rattle.attentive_acts.specs.Places.{Asks, Leaves}
-use Rattle.attentive_acts.specs.Judging.{Judge, leaving}
+use Rattle.attentive_acts.specs.Judging.{Judge}
 use Rattle.engine_loop.specs.declared.serve_end.ServeEnd.{ServeEnd}
 use Rattle.engine_loop.specs.declared.serve_end.ServeEnd.TheVariants as ends
 use Rattle.engine_loop.specs.declared.watch.Watch.{Watch}
-use Rattle.hub_acts.specs.Counting.{Counts}
-use Rattle.engine_loop.specs.Stages.{Course, Stage, Cut, Made, Is, IsWaiting, first_of, waits_in}
+use Rattle.engine_loop.specs.Stages.{Course, Stage, Cut, Is, IsWaiting}
 
 -- ---- the last wait
 

@@ -50,12 +50,13 @@ fn depart<E: Engine, H: Hub, K: Sink>(
 /// closing of all connections that are open.
 ///
 /// A turn waits, tells the moment, accepts at most 64 connections, reads once from each connection
-/// that may have more, writes once to each that may take more, and closes those that are to be closed.
-/// The log is written after each of these. It ends as `Quit` after a turn that leaves the script quit
-/// and no connection open; as `Over` or `HubFault` where a wait answers that its trace is over, or
-/// fails; as `TurnsSpent` after the last turn. At these four ends all connections are closed, and the
-/// whole log is written. At `WriteFault` and `OutOfMemory` it ends at once, with a front of the log
-/// written.
+/// that may have more, writes once to each that may take more, and closes those that are to be
+/// closed. The log is written after each of these. It ends as `Quit` after a turn that leaves the
+/// script quit and no connection open; as `Over` or `HubFault` where a wait answers that its trace
+/// is over, or fails; as `TurnsSpent` after the last turn. At these four ends all connections are
+/// closed, and the whole log is written. It ends at once as `WriteFault` where the output fails,
+/// and as `OutOfMemory` where memory runs out, be it for the buffer that is read into: a front of
+/// the log is written then, and connections may still be open.
 pub fn serve<E: Engine, H: Hub, K: Sink>(
     alloc: Global,
     core: &mut E,

@@ -5,7 +5,8 @@ ghost use Rattle.share_base.specs.Writing.{SinkState};
 ghost use Rattle.attentive_acts.specs.Judging.{most_moved};
 ghost use Rattle.engine_loop.specs.Watches.{serials_in};
 ghost use Rattle.engine_loop.specs.Stages.{Course, IsWaiting};
-ghost use Rattle.engine_loop.specs.Turns.{LogsOn, Heeds, EndsAtFailure, AfterTurn, Logged, IsLoggedSomewhere, IsStarted, waited_once};
+ghost use Rattle.engine_loop.specs.Turns.{LogsOn, Heeds, EndsAtFailure, AfterTurn};
+ghost use Rattle.engine_loop.specs.Turns.{Logged, IsLoggedSomewhere, IsStarted, waited_once};
 ghost use Rattle.engine_loop.specs.Ends.{AfterTurns, GoesOn, GoesOnAfter};
 
 use crate::accepting::accept_each;
@@ -62,7 +63,8 @@ fn turn<E: Engine, H: Hub, K: Sink>(
         (K.state out.old) IsWaiting }
     ensures same { GoesOnAfter result (serials_in watch.new ≡ (H.state hub.new).open_now) }
     ensures turns { (old : SinkState) (r : Course H) → r.failed ≡ false
-        → Logged E.serves H.state H.leads r core.old hub.old watch.old old (K.state out.old) IsWaiting
+        → Logged E.serves H.state H.leads r core.old hub.old watch.old
+        old (K.state out.old) IsWaiting
         → AfterTurn E.serves H.state H.leads (waited_once false r) result
         core.new hub.new watch.new old (K.state out.new) IsWaiting }
 {
@@ -94,7 +96,8 @@ pub(crate) fn take_turns<E: Engine, H: Hub, K: Sink>(
         (K.state out.old) }
     ensures same { GoesOn result (serials_in watch.new ≡ (H.state hub.new).open_now) }
     ensures turns { (old : SinkState) (r : Course H) → r.failed ≡ false → r.waits ≡ 0
-        → Logged E.serves H.state H.leads r core.old hub.old watch.old old (K.state out.old) IsWaiting
+        → Logged E.serves H.state H.leads r core.old hub.old watch.old
+        old (K.state out.old) IsWaiting
         → AfterTurns E.serves H.state H.leads r turns result core.new hub.new watch.new
         old (K.state out.new) }
 {

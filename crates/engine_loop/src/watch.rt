@@ -3,7 +3,8 @@
 ghost use Rattle.std.specs.Prelude.{◌≡◌, [], true, length, fold, OnOk, OnErr};
 ghost use Rattle.std.specs.List.{list_any};
 ghost use Rattle.attentive_acts.specs.Flags.{with_mark};
-ghost use Rattle.engine_loop.specs.Watches.{changed_one, changed_all, reads_as, writes_as, Sets, Opens, without};
+ghost use Rattle.engine_loop.specs.Watches.{changed_one, changed_all, reads_as, writes_as};
+ghost use Rattle.engine_loop.specs.Watches.{Sets, Opens, without};
 
 use hub_acts::Mark;
 use share_base::OutOfMemory;
@@ -152,8 +153,8 @@ impl Watch {
             .any(|stream| stream.serial == serial && stream.reads)
     }
 
-    /// Whether the connection with that serial is undrained for writing, where so many bytes were queued
-    /// for it in all.
+    /// Whether the connection with that serial is undrained for writing, where so many bytes were
+    /// queued for it in all.
     pub(crate) fn may_write(&self, serial: u64, total: u64) -> bool
         ensures { result ≡ list_any (writes_as serial total) self.now.streams.items }
     {

@@ -1,10 +1,9 @@
-use Rattle.std.specs.Prelude.{◌≡◌, ℕ, ◌++◌, ◌∷◌, [], List, true, false}
-use Rattle.std.proofs.Common.{refl, ap, sym, ◌∙◌}
+use Rattle.std.specs.Prelude.{true, false}
+use Rattle.std.proofs.Common.{refl, sym, ◌∙◌}
 use Rattle.machine.specs.Readings.{accepts}
 use Rattle.engine_loop.specs.declared.watch.Watch.{Watch}
 use Rattle.server_engine.specs.Engines.{Reads}
 use Rattle.engine_loop.proofs.MoreActs.{after-err}
-use Rattle.engine_loop.proofs.WatchFlags.{opens-serials}
 use Rattle.engine_loop.proofs.AcceptActs.{pass-accept, not-listening, not-accepting, new-accepts, new-cuts, none-accepts, failed-accepts}
 use Rattle.engine_loop.proofs.accepting.accept_once.Goals as goal
 

@@ -1,4 +1,4 @@
-use Rattle.std.specs.Prelude.{◌≡◌, ℕ, ◌<◌, List, not, ◌==◌, filter, length, Contains}
+use Rattle.std.specs.Prelude.{ℕ, ◌<◌, List, not, ◌==◌, filter, length, Contains}
 use Rattle.std.proofs.Common.{refl, ap, sym, subst, ◌∙◌}
 use Rattle.reached_states.proofs.OpenAfter.{closing-is-open}
 use Rattle.engine_loop.specs.Stages.{IsToClose}

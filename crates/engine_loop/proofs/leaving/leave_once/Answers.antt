@@ -1,5 +1,5 @@
-use Rattle.std.specs.Prelude.{◌≡◌, ℕ, List, ◌∷◌, not, ◌==◌, filter}
-use Rattle.std.proofs.Common.{refl, ap, sym, subst, ◌∙◌}
+use Rattle.std.specs.Prelude.{not, ◌==◌, filter}
+use Rattle.std.proofs.Common.{ap, ◌∙◌}
 use Rattle.engine_loop.proofs.MoreActs.{after-err}
 use Rattle.engine_loop.proofs.LeaveActs.{rest-left, first-open, leave-more, leave-cut}
 use Rattle.engine_loop.proofs.leaving.leave_once.Goals as goal

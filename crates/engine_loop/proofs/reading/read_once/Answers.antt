@@ -1,6 +1,5 @@
-use Rattle.std.specs.Prelude.{◌≡◌, ℕ, length, true}
+use Rattle.std.specs.Prelude.{◌≡◌, length}
 use Rattle.std.proofs.Common.{arith, sym, ◌∙◌}
-use Rattle.machine.specs.Readings.{reads}
 use Rattle.machine.specs.Queues.{total}
 use Rattle.engine_loop.specs.declared.watch.Change.TheVariants.{ReadsDrained}
 use Rattle.attentive_acts.specs.Judging.{most_moved}

@@ -1,4 +1,4 @@
-use Rattle.std.specs.Prelude.{◌≡◌, ℕ, false, true}
+use Rattle.std.specs.Prelude.{◌≡◌, false, true}
 use Rattle.std.proofs.Common.{refl, sym, ◌∙◌}
 use Rattle.engine_loop.specs.Watches.{serials_in}
 use Rattle.engine_loop.specs.Ends.{is_failure}

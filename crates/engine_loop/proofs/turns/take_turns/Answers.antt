@@ -1,5 +1,5 @@
 use Rattle.std.proofs.Common.{refl}
-use Rattle.engine_loop.proofs.Starts.{after_waits, no-waits, turn-ends}
+use Rattle.engine_loop.proofs.Starts.{after_waits, turn-ends}
 use Rattle.engine_loop.proofs.turns.take_turns.Goals as goal
 
 pub turn-requires-clause-there : goal.turn-requires-clause-there

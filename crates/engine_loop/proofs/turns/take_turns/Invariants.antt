@@ -1,4 +1,4 @@
-use Rattle.std.specs.Prelude.{◌≡◌, ℕ, false, length}
+use Rattle.std.specs.Prelude.{◌≡◌, false, length}
 use Rattle.share_base.specs.Writing.{SinkState}
 use Rattle.attentive_acts.specs.Judging.{most_moved}
 use Rattle.engine_loop.specs.Watches.{serials_in}

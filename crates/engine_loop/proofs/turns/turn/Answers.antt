@@ -1,5 +1,5 @@
 use Rattle.std.specs.Prelude.{◌≡◌, ℕ, ◌<◌, List, length, Ok, Err, false}
-use Rattle.std.proofs.Common.{refl, ap, sym, subst, ◌∙◌}
+use Rattle.std.proofs.Common.{sym, subst, ◌∙◌}
 use Rattle.machine.specs.Connections.{serials}
 use Rattle.attentive_acts.specs.Places.{Asks, at_accepts, at_reads, at_writes, at_closes, most_accepts}
 use Rattle.engine_loop.specs.Watches.{serials_in}

@@ -1,4 +1,3 @@
-use Rattle.std.proofs.Common.{refl}
 use Rattle.machine.specs.Readings.{accepts}
 use Rattle.engine_loop.proofs.BusyOnes.{first-fails, second-decides}
 use Rattle.engine_loop.proofs.waiting.is_listening.Goals as goal

@@ -1,5 +1,5 @@
 use Rattle.std.specs.Prelude.{◌≡◌, ℕ, Bool, true, false, ◌||◌, ◌-◌, cond, min, nat_le}
-use Rattle.std.proofs.Common.{arith, refl, ap, sym, ◌∙◌}
+use Rattle.std.proofs.Common.{arith, ap, sym, ◌∙◌}
 use Rattle.machine.specs.Queues.{total}
 use Rattle.machine.specs.Readings.{due}
 use Rattle.attentive_acts.specs.Flags as flags

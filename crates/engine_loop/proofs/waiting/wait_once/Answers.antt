@@ -1,5 +1,5 @@
 use Rattle.std.specs.Prelude.{◌≡◌, List, Some, fold}
-use Rattle.std.proofs.Common.{refl, ap, sym, subst, ◌∙◌}
+use Rattle.std.proofs.Common.{ap, sym, subst, ◌∙◌}
 use Rattle.hub_acts.specs.declared.act.Act.TheVariants as act
 use Rattle.hub_acts.specs.declared.answers.Waited.TheVariants as waited
 use Rattle.hub_acts.specs.declared.marks.Mark.{Mark}

@@ -1,7 +1,6 @@
 use Rattle.std.specs.Prelude.{◌≡◌, ℕ, ◌+◌, ◌<◌, List, [], ◌∷◌, drop, length, Contains}
-use Rattle.std.proofs.Common.{arith, refl, ap, sym, subst, ◌∙◌}
-use Rattle.machine.specs.Connections.{serials}
-use Rattle.attentive_acts.specs.Places.{at_writes, at_closes}
+use Rattle.std.proofs.Common.{refl, ap, sym, subst, ◌∙◌}
+use Rattle.attentive_acts.specs.Places.{at_writes}
 use Rattle.engine_loop.specs.Stages.{Is}
 use Rattle.engine_loop.specs.Watches.{serials_in}
 use Rattle.engine_loop.proofs.MoreActs.{elsewhere, after-err}

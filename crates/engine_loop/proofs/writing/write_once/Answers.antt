@@ -1,5 +1,5 @@
 use Rattle.std.specs.Prelude.{◌≡◌, ℕ, min, length, take, List, Contains}
-use Rattle.std.proofs.Common.{arith, refl, ap, sym, subst, ◌∙◌}
+use Rattle.std.proofs.Common.{arith, ap, sym, subst, ◌∙◌}
 use Rattle.engine_loop.specs.declared.watch.Change.TheVariants.{WritesDrained}
 use Rattle.engine_loop.specs.Watches.{serials_in}
 use Rattle.engine_loop.proofs.MoreActs.{after-err}
