@@ -9,6 +9,7 @@ use Rattle.script_screen.specs.declared.kinds.TextKind.TheVariants.{TooLong}
 use Rattle.script_screen.specs.declared.trace.TraceLine.{TraceLine}
 use Rattle.script_screen.specs.Scripts.{ScriptText}
 use Rattle.script_screen.specs.NumberedLines.{TextRefusal, refused_at, line_judged, at_line, numbered}
+use Rattle.script_screen.specs.Texts.{script_judged, script_start, trace_judged}
 use Rattle.script_screen.specs.Verdicts.{ScriptRefuses, TraceRefuses}
 use Rattle.synergy_share.specs.declared.status.Status.{Status}
 use Rattle.synergy_share.specs.declared.status.Status.TheVariants as status
@@ -36,11 +37,11 @@ offends_at : {D : Type 0} (judge : D → List (List ℕ) → Result D TextKind) 
 offends_at judge from ls r o = omega (arith, numbered_at judge (length o.above + 1) o.draft o.line r o.bad)
 
 script_line_named : (config : Configuration) (text : List ℕ) (r : TextRefusal) → ScriptRefuses config text r → 0 < r.line
-script_line_named config text r (inl o) = offends_at _ _ (lines text) r o
+script_line_named config text r (inl o) = offends_at script_judged (script_start config) (lines text) r o
 script_line_named config text r (inr n) = omega (arith, ap line_of n.place)
 
 trace_line_named : (text : List ℕ) (r : TextRefusal) → TraceRefuses text r → 0 < r.line
-trace_line_named text r o = offends_at _ _ (lines text) r o
+trace_line_named text r o = offends_at trace_judged [] (lines text) r o
 
 -- ---- the count of files that are too big
 
