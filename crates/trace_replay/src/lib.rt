@@ -4,7 +4,7 @@
 //! (`specs/Replaying.antt`). It knows no files and no sockets.
 #![tactic(auto)]
 
-mod replay;
+mod running;
 
 pub use engine_loop::ServeEnd;
-pub use replay::replay;
+pub use running::replay;
