@@ -32,8 +32,6 @@ mod routes;
 mod routing;
 mod running;
 mod screens;
-#[cfg(test)]
-mod script_tests;
 mod server;
 mod slow;
 mod start;
@@ -41,8 +39,6 @@ mod stepping;
 mod switching;
 mod taking;
 mod target;
-#[cfg(test)]
-mod tests;
 mod timers;
 mod ways;
 
