@@ -68,6 +68,20 @@ def hello(minor, name):
 
 # The keys of the pad's visit: 18 bytes enter it, 14 are a key's down or up, and 8 a farewell.
 TYPED = "send 1 DKDN 97 0 38\nsend 1 DKUP 97 0 38\n"
+# A connection with a hello of another version that takes nothing more; and a second one.
+PARTING = "turn 0\njoin 1\nturn 0\nroom 1 0\ngot 1 " + hello(7, "pad") + "\n"
+PARTED = GREETED + "send 1 EICV 1 6\npart 1 version\n"
+SECOND = "open 2\nsend 2 Synergy 1 6\n"
+# The first clipboard is grabbed, and "x" is sent of it: its start, its bytes and its end.
+GRABBED = (
+    "0000000943434c500000000001"
+    "0000000f44434c50000000000101"
+    "0000000131"
+    "0000000f44434c50000000000102"
+    "0000000178"
+    "0000000e44434c50000000000103"
+    "00000000"
+)
 GREET_BAD = f"turn 0\njoin 1\nturn 0\ngot 1 "
 
 ROWS = [
@@ -138,6 +152,37 @@ ROWS = [
         "",
         GREET_BAD + "00000401\n" + turns(0),
         GREETED + "send 1 EBAD\npart 1 bad 0 toolong\n" + closed(23, 23),
+    ),
+    row(
+        "a screen without width",
+        "",
+        f"turn 0\njoin 1\nturn 0\ngot 1 {HELLO}\nturn 0\ngot 1 0000001244494e460000000000000300000000000180\n",
+        ASKED + "send 1 EBAD\npart 1 size\n" + closed(31, 31),
+    ),
+    row(
+        "a name that is taken",
+        "",
+        JOIN + "turn 0\njoin 2\nturn 0\ngot 2 " + hello(6, "PAD") + "\n",
+        JOINED + "open 2\nsend 2 Synergy 1 6\nsend 2 EBSY\npart 2 busy\n" + closed(23, 23, 2) + closed(TAKEN, TAKEN),
+    ),
+    row("silent for not quite 30 seconds", "", "turn 0\njoin 1\n" + turns(29999), GREETED + closed(15, 15)),
+    row("silent for 30 seconds", "", "turn 0\njoin 1\n" + turns(30000), GREETED + "part 1 silent\n" + closed(15, 15)),
+    row("not quite the closing time", "", PARTING + "turn 4999\nturn 4999\njoin 2\n", PARTED + SECOND + closed(15, 27) + closed(15, 15, 2)),
+    row("the closing time", "", PARTING + "turn 5000\nturn 5000\njoin 2\n", PARTED + closed(15, 27) + SECOND + closed(15, 15, 2)),
+    row(
+        "one connection too many",
+        "",
+        "turn 0\n" + "".join(f"join {n}\n" for n in range(1, 66)) + turns(0),
+        "".join(f"open {n}\nsend {n} Synergy 1 6\n" for n in range(1, 65))
+        + "open 65\npart 65 full\n"
+        + closed(0, 0, 65)
+        + "".join(closed(15, 15, n) for n in range(1, 65)),
+    ),
+    row(
+        "a client's clipboard",
+        "motion 960 0\nmotion -1 0\n",
+        JOIN + turns(0) + "turn 0\ngot 1 " + GRABBED + "\n",
+        JOINED + ENTERED + "send 1 COUT\nlocal enter 1919 540 2 0\nlocal grab 0\nlocal clip 0 78\n" + closed(77, 77),
     ),
     refused("script 2 NotDown", script="primary desk 1920 1080\nkey up 38\n"),
     refused("script 1 NoPrimary", script="await pad\n"),
