@@ -5,4 +5,5 @@ pub mod Injection
 pub mod OneEnd
 pub mod Checked
 pub mod TextLines
+pub mod ReplayWords
 pub mod Adapters

@@ -1,4 +1,8 @@
 use Rattle.command_words.specs.Forms.{Check, Replay}
+use Rattle.std.specs.Prelude.{ℕ, List}
+use Rattle.std.proofs.Common.{subst}
+use Rattle.synergy_share.specs.Replaying.{Replays, given_by}
+use Rattle.synergy_share.proofs.ReplayWords.{same_replay}
 use Rattle.synergy_share.proofs.top.run.Goals as goal
 
 pub returns-in-None-clause-checks : goal.returns-in-None-clause-checks
@@ -12,3 +16,16 @@ returns-in-None-clause-replays g c config script trace names = absurd (c.in-None
 
 pub returns-in-None-clause-replay_overs : goal.returns-in-None-clause-replay_overs
 returns-in-None-clause-replay_overs g c config script trace names = absurd (c.in-None.ensures.none (Replay config script trace) names)
+
+pub returns-in-Some-Replay-clause-replays : goal.returns-in-Some-Replay-clause-replays
+returns-in-Some-Replay-clause-replays g c config script trace names =
+    let r = c.in-Some-Replay in
+    let told = g.F.Files.told c.args.files.now in
+    let same = same_replay c.args.words.now r.config.now r.script.now r.trace.now config script trace r.ensures.named names in
+    let calls = g.F.Files.calls c.args.files.now in
+    let calls' = g.F.Files.calls c.run_replay.new.files in
+    let out = g.K.Sink.state c.args.out.now in
+    let out' = g.K.Sink.state c.run_replay.new.out in
+    subst (λ (x : List ℕ). Replays c.run_replay.result (given_by told x script trace) calls calls' out out') same.0
+    (subst (λ (x : List ℕ). Replays c.run_replay.result (given_by told r.config.now x trace) calls calls' out out') same.1
+    (subst (λ (x : List ℕ). Replays c.run_replay.result (given_by told r.config.now r.script.now x) calls calls' out out') same.2 c.run_replay.ensures.replays))
