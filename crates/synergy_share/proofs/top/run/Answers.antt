@@ -1,4 +1,5 @@
-use Rattle.command_words.specs.Forms.{Check, Replay}
+use Rattle.command_words.specs.declared.command.Command.{Command}
+use Rattle.command_words.specs.Forms.{Check, Replay, Names, form_of}
 use Rattle.std.specs.Prelude.{ℕ, List}
 use Rattle.std.proofs.Common.{subst}
 use Rattle.synergy_share.specs.Replaying.{Replays, given_by}
@@ -21,7 +22,8 @@ pub returns-in-Some-Replay-clause-replays : goal.returns-in-Some-Replay-clause-r
 returns-in-Some-Replay-clause-replays g c config script trace names =
     let r = c.in-Some-Replay in
     let told = g.F.Files.told c.args.files.now in
-    let same = same_replay c.args.words.now r.config.now r.script.now r.trace.now config script trace r.ensures.named names in
+    let named = subst (λ (x : Command). Names (form_of x) c.args.words.now) r.field-0-is r.ensures.named in
+    let same = same_replay c.args.words.now r.config.now r.script.now r.trace.now config script trace named names in
     let calls = g.F.Files.calls c.args.files.now in
     let calls' = g.F.Files.calls c.run_replay.new.files in
     let out = g.K.Sink.state c.args.out.now in
