@@ -162,7 +162,7 @@ def examples():
     for output in sorted(EXAMPLES.glob("*.*.out")):
         name, command, _ = output.name.split(".")
         end = EXAMPLE_ENDS.get((name, command), (0, ""))
-        place = {"input": lambda: [example(f"{name}.bin")]} if command in ("inject", "show") else {}
+        place = {"input": example(f"{name}.bin")} if command in ("inject", "show") else {}
         files = [(file.name, file.read_bytes()) for file in EXAMPLES.glob(f"{name}.*") if file.suffix in TEXTS]
         yield Case(f"example {output.name}", EXAMPLE_WORDS[command](name), *end, output.read_bytes(), files=files, **place)
 
