@@ -22,14 +22,14 @@ end_word ends.Client = codes "client"
 -- the first word
 abbrev pub command_word : Form → List ℕ
 command_word Inject = codes "inject"
-command_word (Show sender) = codes "show"
+command_word (Show from) = codes "show"
 command_word (Check config) = codes "check"
 command_word (Replay config script trace) = codes "replay"
 
 -- the words after it
 abbrev pub arguments_of : Form → List (List ℕ)
 arguments_of Inject = []
-arguments_of (Show sender) = end_word sender ∷ []
+arguments_of (Show from) = end_word from ∷ []
 arguments_of (Check config) = config ∷ []
 arguments_of (Replay config script trace) = config ∷ script ∷ trace ∷ []
 
@@ -51,7 +51,7 @@ NoForm words = (form : Form) → Names form words → ⊥
 -- what the code's borrowed words stand for
 abbrev pub form_of : Command → Form
 form_of command.Inject = Inject
-form_of (command.Show sender) = Show sender
+form_of (command.Show from) = Show from
 form_of (command.Check config) = Check config.now
 form_of (command.Replay config script trace) = Replay config.now script.now trace.now
 
