@@ -22,7 +22,8 @@ borders_at m end = if is_full_chunk m then (end - full_data) ∷ end ∷ [] else
 -- the frames of these messages begin after that many bytes
 abbrev pub borders_from : ℕ → List Msg → List ℕ
 borders_from at [] = []
-borders_from at (m ∷ ms) = borders_at m (at + length (frame_of m)) ++ borders_from (at + length (frame_of m)) ms
+borders_from at (m ∷ ms) =
+    borders_at m (at + length (frame_of m)) ++ borders_from (at + length (frame_of m)) ms
 
 -- the borders in a connection's queue, as numbers of bytes before them
 abbrev pub borders : List Entry → ℕ → List ℕ

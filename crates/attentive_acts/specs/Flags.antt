@@ -1,4 +1,5 @@
--- What may still be read, written or accepted without a new mark: flags that single acts set and clear.
+-- What may still be read, written or accepted without a new mark: flags that single acts set and
+-- clear.
 use Rattle.std.specs.Prelude.{ℕ, Bool, true, false, not, ◌&&◌, ◌||◌, ◌==◌, nat_lt, if◌then◌else◌, List, [], ◌∷◌, ◌++◌, map, filter}
 use Rattle.std.specs.List.{fold, list_any}
 use Rattle.std.specs.Option.{option_map_or}
@@ -44,7 +45,8 @@ with_listens b fs = record fs { listens = b }
 -- a mark of a connection that isn't open changes nothing
 abbrev pub with_mark : Flags → Mark → Flags
 with_mark fs mark.Accept = with_listens true fs
-with_mark fs (mark.Stream c readable writable) = change_flag c (λ f. record f { reads = f.reads || readable; writes = f.writes || writable }) fs
+with_mark fs (mark.Stream c readable writable) =
+    change_flag c (λ f. record f { reads = f.reads || readable; writes = f.writes || writable }) fs
 
 abbrev pub read_drained : Flag → Flag
 read_drained f = record f { reads = false }
@@ -54,7 +56,8 @@ write_drained f = record f { writes = false }
 
 abbrev pub flags_with : Act → Flags → Flags
 flags_with (act.Wait ms waited.Ready marks) fs = fold with_mark fs marks
-flags_with (act.Accept (accepted.New c)) fs = record fs { streams = fs.streams ++ (record { serial = c; reads = true; writes = false }) ∷ [] }
+flags_with (act.Accept (accepted.New c)) fs =
+    record fs { streams = fs.streams ++ (record { serial = c; reads = true; writes = false }) ∷ [] }
 flags_with (act.Accept accepted.NotNow) fs = with_listens false fs
 flags_with (act.Accept accepted.Failed) fs = with_listens false fs
 flags_with (act.Read c room read.End bytes) fs = change_flag c read_drained fs
@@ -67,10 +70,12 @@ flags_with a fs = fs
 
 -- a queue that grew is as good as a mark
 abbrev pub flag_grown : State → State → Flag → Flag
-flag_grown old new f = record f { writes = f.writes || nat_lt (total old.routed f.serial) (total new.routed f.serial) }
+flag_grown old new f =
+    record f { writes = f.writes || nat_lt (total old.routed f.serial) (total new.routed f.serial) }
 
 abbrev pub flags_after : Act → State → State → Flags → Flags
-flags_after a old new fs = record (flags_with a fs) { streams = map (flag_grown old new) (flags_with a fs).streams }
+flags_after a old new fs =
+    record (flags_with a fs) { streams = map (flag_grown old new) (flags_with a fs).streams }
 
 -- ---- what is undrained
 
@@ -95,4 +100,5 @@ is_listening fs s = fs.listens && accepts s
 
 -- something is undrained
 abbrev pub is_busy : Flags → State → Bool
-is_busy fs s = is_listening fs s || list_any (λ f. is_readable fs s f.serial || is_writable fs s f.serial) fs.streams
+is_busy fs s = is_listening fs s
+    || list_any (λ f. is_readable fs s f.serial || is_writable fs s f.serial) fs.streams

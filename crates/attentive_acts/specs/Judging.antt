@@ -1,4 +1,5 @@
--- Attentive acts: each is the one that is due, judged by the flags and the machine's state directly before it.
+-- Attentive acts: each is the one that is due, judged by the flags and the machine's state directly
+-- before it.
 use Rattle.std.specs.Prelude.{◌≡◌, ℕ, ◌+◌, ◌-◌, ◌<◌, min, ◌⊎◌, true, ◌||◌, nat_le, if◌then◌else◌, List, [], ◌∷◌, length, take, drop, Contains, Some}
 use Rattle.hub_acts.specs.declared.act.Act.{Act}
 use Rattle.hub_acts.specs.declared.act.Act.TheVariants as act
@@ -53,7 +54,9 @@ most_offered s c = min most_moved (length (untaken s c))
 pub record IsPiece (s : State) (c : ℕ) (bytes : List ℕ) : Type 0 where
   pub front : bytes ≡ take (length bytes) (untaken s c)
   pub some : 0 < length bytes
-  pub long : (length bytes ≡ most_offered s c) ⊎ ((length bytes < most_offered s c) × Contains (borders s.routed c) (taken_by s c + length bytes))
+  pub long : (length bytes ≡ most_offered s c)
+      ⊎ ((length bytes < most_offered s c)
+      × Contains (borders s.routed c) (taken_by s c + length bytes))
 
 -- a read gives as many bytes as it says
 abbrev pub HasBytes : ReadAnswer → List ℕ → Type 0
@@ -71,15 +74,18 @@ AllowsNow (act.Now moment) = Unit {0}
 AllowsNow a = ⊥
 
 abbrev pub AllowsAccept : Judge → Act → Type 0
-AllowsAccept j (act.Accept answer) = FitsAccept answer j.latest × (is_listening j.flags j.state ≡ true)
+AllowsAccept j (act.Accept answer) =
+    FitsAccept answer j.latest × (is_listening j.flags j.state ≡ true)
 AllowsAccept j a = ⊥
 
 abbrev pub AllowsRead : Judge → ℕ → Act → Type 0
-AllowsRead j c (act.Read d room answer bytes) = (d ≡ c) × (room ≡ most_moved) × FitsRead answer room × HasBytes answer bytes × (is_readable j.flags j.state c ≡ true)
+AllowsRead j c (act.Read d room answer bytes) = (d ≡ c) × (room ≡ most_moved) × FitsRead answer room
+    × HasBytes answer bytes × (is_readable j.flags j.state c ≡ true)
 AllowsRead j c a = ⊥
 
 abbrev pub AllowsWrite : Judge → ℕ → Act → Type 0
-AllowsWrite j c (act.Write d bytes answer) = (d ≡ c) × IsPiece j.state c bytes × FitsWrite answer (length bytes) × (is_writable j.flags j.state c ≡ true)
+AllowsWrite j c (act.Write d bytes answer) = (d ≡ c) × IsPiece j.state c bytes
+    × FitsWrite answer (length bytes) × (is_writable j.flags j.state c ≡ true)
 AllowsWrite j c a = ⊥
 
 abbrev pub AllowsClose : Judge → Act → Type 0
@@ -109,7 +115,12 @@ abbrev pub judge_after : Judge → Act → Judge
 judge_after j a =
     let next : State = state_after a j.state in
     let fs : Flags = flags_after a j.state next j.flags in
-    record { flags = fs; latest = latest_with a j.latest; state = next; place = place_after j.place a fs next }
+    record {
+      flags = fs;
+      latest = latest_with a j.latest;
+      state = next;
+      place = place_after j.place a fs next;
+    }
 
 abbrev pub judged : Judge → List Act → Judge
 judged j [] = j

@@ -21,13 +21,15 @@ use Rattle.attentive_acts.specs.Judging.{Judge, Follows, judged, first_judge}
 abbrev pub ReadsTheLiving : Type 0
 ReadsTheLiving =
     (j : Judge) (before after : List Act) (serial room : ℕ) (answer : ReadAnswer) (bytes : List ℕ)
-    → Follows j (before ++ act.Read serial room answer bytes ∷ after) → reads (judged j before).state serial ≡ true
+    → Follows j (before ++ act.Read serial room answer bytes ∷ after)
+    → reads (judged j before).state serial ≡ true
 
 -- a connection that is written to is open, and has bytes that it may still take
 abbrev pub WritesWhatIsQueued : Type 0
 WritesWhatIsQueued =
     (j : Judge) (before after : List Act) (serial : ℕ) (bytes : List ℕ) (answer : WriteAnswer)
-    → Follows j (before ++ act.Write serial bytes answer ∷ after) → has_more (judged j before).state serial ≡ true
+    → Follows j (before ++ act.Write serial bytes answer ∷ after)
+    → has_more (judged j before).state serial ≡ true
 
 -- ---- prefixes
 
@@ -48,5 +50,7 @@ AreAttentive config script now acts = Follows (first_judge (start config script 
 -- what a connection has taken is a front of what the machine queued for it
 abbrev pub TakenInOrder : Type 0
 TakenInOrder =
-    (config : Configuration) (script : Script) (now : ℕ) (acts : List Act) → AreAttentive config script now acts
-    → (c : ℕ) → IsFront (taken_bytes c acts) (queue (judge_of config script now acts).state.routed c)
+    (config : Configuration) (script : Script) (now : ℕ) (acts : List Act)
+    → AreAttentive config script now acts
+    → (c : ℕ) → IsFront (taken_bytes c acts)
+    (queue (judge_of config script now acts).state.routed c)

@@ -1,4 +1,5 @@
--- The law that the open connections of the machine, and those that have flags, are the open ones of the hub.
+-- The law that the open connections of the machine, and those that have flags, are the open ones of
+-- the hub.
 use Rattle.std.specs.Prelude.{◌≡◌, ℕ, List, map}
 use Rattle.hub_acts.specs.declared.act.Act.{Act}
 use Rattle.hub_acts.specs.Counting.{open_with}
@@ -13,4 +14,5 @@ pub record AreOpen (those : List ℕ) (j : Judge) : Type 0 where
 
 -- an act opens and closes the same for all three, whether it was due or not
 abbrev pub OpenTogether : Type 0
-OpenTogether = (those : List ℕ) (j : Judge) (a : Act) → AreOpen those j → AreOpen (open_with a those) (judge_after j a)
+OpenTogether = (those : List ℕ) (j : Judge) (a : Act) → AreOpen those j
+    → AreOpen (open_with a those) (judge_after j a)

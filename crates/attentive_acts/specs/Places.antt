@@ -41,7 +41,8 @@ at_reads fs s [] = at_writes fs s (serials s.connections)
 at_reads fs s (c ∷ cs) = if is_readable fs s c then Reads (c ∷ cs) else at_reads fs s cs
 
 abbrev pub at_accepts : Flags → State → ℕ → Place
-at_accepts fs s left = if is_listening fs s && nat_lt 0 left then Accepts left else at_reads fs s (serials s.connections)
+at_accepts fs s left = if is_listening fs s && nat_lt 0 left then Accepts left
+    else at_reads fs s (serials s.connections)
 
 -- ---- the place after an act
 

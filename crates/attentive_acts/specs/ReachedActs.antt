@@ -19,7 +19,10 @@ pub record IsReached (o : Origin) (j : Judge) : Type 0 where
 -- the acts of a run, and the closings at its end
 pub record RunIsReached (o : Origin) (acts : List Act) : Type 0 where
   pub run : IsReached o (judged (first_judge (start_of o)) acts)
-  pub closings : (closings : List Act) → Follows (leaving (judged (first_judge (start_of o)) acts)) closings → IsReached o (judged (leaving (judged (first_judge (start_of o)) acts)) closings)
+  pub closings : (closings : List Act)
+      → Follows (leaving (judged (first_judge (start_of o)) acts)) closings
+      → IsReached o (judged (leaving (judged (first_judge (start_of o)) acts)) closings)
 
 abbrev pub AttentiveIsReached : Type 0
-AttentiveIsReached = (o : Origin) (acts : List Act) → Follows (first_judge (start_of o)) acts → RunIsReached o acts
+AttentiveIsReached =
+    (o : Origin) (acts : List Act) → Follows (first_judge (start_of o)) acts → RunIsReached o acts

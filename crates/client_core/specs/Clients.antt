@@ -77,7 +77,9 @@ fails (Some bad) c = record c { done = Some (end.BadPeer bad.place bad.reason) }
 
 -- the messages that it has not heard are heard, and then the bad frame counts
 abbrev pub reads : Inbox → Client → Client
-reads box c = (λ (d : Client). while_going d.done (fails (bad_in box)) d) (hear_all c (drop (length c.heard) box.messages))
+reads box c =
+    (λ (d : Client). while_going d.done (fails (bad_in box)) d)
+    (hear_all c (drop (length c.heard) box.messages))
 
 abbrev pub got : List ℕ → Client → Client
 got piece c = while_going c.done (λ d. reads (inbox_with piece d) (fed piece d)) c

@@ -18,7 +18,8 @@ use Rattle.client_core.specs.declared.clipboards.TheConstants.{CLIP_LIMIT}
 abbrev pub whole_line : Whole → Line
 whole_line w = line.Clip w.clip w.bytes
 
--- a line for the whole that a part ends, where it ends one. The older parts, of both clipboards, stand the newest first
+-- a line for the whole that a part ends, where it ends one. The older parts, of both clipboards,
+-- stand the newest first
 abbrev pub part_lines : Part → List Part → List Line
 part_lines p older = map whole_line (whole_of p (whole_at CLIP_LIMIT p older))
 
@@ -26,9 +27,11 @@ abbrev pub tells_bytes : Line → Bool
 tells_bytes (line.Clip clip bytes) = true
 tells_bytes _ = false
 
--- those of the lines that tell the bytes of a clipboard are one for each whole among the messages, in the order of their ends
+-- those of the lines that tell the bytes of a clipboard are one for each whole among the messages,
+-- in the order of their ends
 abbrev pub TellWholes : List Line → List Msg → Type 0
-TellWholes lines messages = filter tells_bytes lines ≡ map whole_line (wholes_among CLIP_LIMIT messages)
+TellWholes lines messages =
+    filter tells_bytes lines ≡ map whole_line (wholes_among CLIP_LIMIT messages)
 
 -- ---- what is kept
 

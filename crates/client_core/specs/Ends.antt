@@ -25,7 +25,8 @@ stop_of _ = None
 
 -- a client that joins is refused by the hello of a server of another version, too
 abbrev pub stop_joining : Msg → Option Stop
-stop_joining (msg.Hello major minor) = if is_welcome major minor then None else Some (stop.Refused which.Version)
+stop_joining (msg.Hello major minor) =
+    if is_welcome major minor then None else Some (stop.Refused which.Version)
 stop_joining m = stop_of m
 
 -- by whether the client joins, and then has a conversation
@@ -53,8 +54,10 @@ heard_of verdict = before_end stop_of verdict.messages
 abbrev pub end_of : {reader : Reader} {stream : List ℕ} → Verdict reader stream → Option ClientEnd
 end_of verdict = option_map end_by (outcome stop_of verdict)
 
--- how one that has heard these messages has ended: as the verdict says, after all that it hears; or out of memory, after some of them
-abbrev pub IsHeard : {reader : Reader} {stream : List ℕ} → Option ClientEnd → Verdict reader stream → List Msg → Type 0
+-- how one that has heard these messages has ended: as the verdict says, after all that it hears; or
+-- out of memory, after some of them
+abbrev pub IsHeard : {reader : Reader} {stream : List ℕ} → Option ClientEnd → Verdict reader stream
+    → List Msg → Type 0
 IsHeard (Some end.OutOfMemory) verdict messages = IsFront messages (heard_of verdict)
 IsHeard done verdict messages = (done ≡ end_of verdict) × (messages ≡ heard_of verdict)
 

@@ -20,11 +20,29 @@ use Rattle.client_core.specs.Clients.{Client, while_going, slow_end, got}
 
 -- it reads the messages of a server wherever they stand, and says nothing
 abbrev pub injecting : Client
-injecting = record { role = role.Observer ends.Server; received = []; heard = []; shown = []; talk = None; taken = []; done = None }
+injecting =
+    record {
+      role = role.Observer ends.Server;
+      received = [];
+      heard = [];
+      shown = [];
+      talk = None;
+      taken = [];
+      done = None;
+    }
 
 -- it joins, with a screen of that name and size, and that script
 abbrev pub joining : List ℕ → (w h : ℕ) → List ClientLine → (now : ℕ) → Client
-joining name w h lines now = record { role = role.Client; received = []; heard = []; shown = []; talk = Some (begun name w h lines now); taken = []; done = None }
+joining name w h lines now =
+    record {
+      role = role.Client;
+      received = [];
+      heard = [];
+      shown = [];
+      talk = Some (begun name w h lines now);
+      taken = [];
+      done = None;
+    }
 
 -- ---- what is read off it
 
@@ -68,13 +86,18 @@ end_of_wait t = if is_dead t then Some (end.Lost lost.Dead) else slow_end (Some 
 -- no moment counts for one that injects
 abbrev pub tells : Option Talk → ℕ → Client → Client
 tells None moment c = c
-tells (Some t) moment c = record c { talk = Some (waited (told moment t)); done = end_of_wait (told moment t) }
+tells (Some t) moment c =
+    record c { talk = Some (waited (told moment t)); done = end_of_wait (told moment t) }
 
 abbrev pub passes : ℕ → Client → Client
 passes moment c = while_going c.done (tells c.talk moment) c
 
 abbrev pub took : ℕ → Client → Client
-took count c = record c { taken = c.taken ++ take count (untaken c); talk = option_map (talks.took count) c.talk }
+took count c =
+    record c {
+      taken = c.taken ++ take count (untaken c);
+      talk = option_map (talks.took count) c.talk;
+    }
 
 -- an end that it has stays
 abbrev pub ended : ClientEnd → Client → Client
@@ -86,7 +109,8 @@ step c (Moment moment) = passes moment c
 step c (Took count) = took count c
 step c (Ended why) = ended why c
 
--- its lines tell the bytes of the whole clipboards among the messages that it heard, and of no others
+-- its lines tell the bytes of the whole clipboards among the messages that it heard, and of no
+-- others
 abbrev pub TellsWholes : Client → Type 0
 TellsWholes c = TellWholes (lines c) c.heard
 

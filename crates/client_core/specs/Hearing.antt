@@ -20,7 +20,8 @@ option_lines words = map (λ (option : ℕ × ℕ). line.SetOption option.0 opti
 
 -- the map changed by each option in turn
 abbrev pub set_all : ModMap → List ℕ → ModMap
-set_all mods words = fold (λ (m : ModMap) (option : ℕ × ℕ). changed m option.0 option.1) mods (pairs words)
+set_all mods words =
+    fold (λ (m : ModMap) (option : ℕ × ℕ). changed m option.0 option.1) mods (pairs words)
 
 -- a screen, and all parts of clipboards that came, the newest first
 pub record Display : Type 0 where
@@ -36,8 +37,13 @@ with_part p d = record { screen = with_lines d.screen (part_lines p d.parts); pa
 
 -- the display after one more message
 abbrev pub heard : Display → Msg → Display
-heard d msg.ResetOptions = with_screen (record { lines = d.screen.lines ++ line.ResetOptions ∷ []; mods = identity }) d
-heard d (msg.SetOptions words) = with_screen (record { lines = d.screen.lines ++ option_lines words; mods = set_all d.screen.mods words }) d
+heard d msg.ResetOptions =
+    with_screen (record { lines = d.screen.lines ++ line.ResetOptions ∷ []; mods = identity }) d
+heard d (msg.SetOptions words) =
+    with_screen (record {
+      lines = d.screen.lines ++ option_lines words;
+      mods = set_all d.screen.mods words;
+    }) d
 heard d (msg.Grab clip seq) = with_screen (with_lines d.screen (line.Grab clip ∷ [])) d
 heard d (msg.ClipPart clip seq mark bytes) = with_part (part mark clip seq bytes) d
 heard d m = with_screen (after d.screen (Applies m)) d
@@ -62,6 +68,8 @@ client messages = (display messages).screen
 abbrev pub all_lines : List Msg → List Line
 all_lines messages = (client messages).lines ++ releases (client messages).lines
 
--- from every screen that it stood for, an injector came to stand for that screen with the map changed by options
+-- from every screen that it stood for, an injector came to stand for that screen with the map
+-- changed by options
 abbrev pub SetsAll : Injector → Injector → List ℕ → Type 0
-SetsAll old new words = (s : Screen) → Stands old s → Stands new (record { lines = s.lines; mods = set_all s.mods words })
+SetsAll old new words = (s : Screen) → Stands old s
+    → Stands new (record { lines = s.lines; mods = set_all s.mods words })

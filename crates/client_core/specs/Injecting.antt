@@ -12,10 +12,20 @@ use Rattle.client_core.specs.Kept.{Stands}
 
 -- one that got this stream, and heard these messages of it
 abbrev pub injected : Role → Option ClientEnd → List ℕ → List Msg → Client
-injected role done stream messages = record { role = role; received = stream; heard = messages; shown = messages; talk = None; taken = []; done = done }
+injected role done stream messages =
+    record {
+      role = role;
+      received = stream;
+      heard = messages;
+      shown = messages;
+      talk = None;
+      taken = [];
+      done = done;
+    }
 
 -- the core stands for one that has ended as the verdict on its stream says, after these messages
-pub record Injects (core : ClientCore) (stream : List ℕ) (messages : List Msg) (front : List ℕ) : Type 0 where
+pub record Injects (core : ClientCore) (stream : List ℕ) (messages : List Msg) (front : List ℕ)
+    : Type 0 where
   pub verdict : Verdict (reader_of core.reader.role) stream
   pub heard : IsHeard core.done verdict messages
   pub stands : Stands core (injected core.reader.role core.done stream messages) front
@@ -23,4 +33,6 @@ pub record Injects (core : ClientCore) (stream : List ℕ) (messages : List Msg)
 -- a piece came, and it heard more messages
 pub record Grows (core new : ClientCore) (piece : List ℕ) : Type 0 where
   pub role : new.reader.role ≡ core.reader.role
-  pub hears : (stream : List ℕ) (messages : List Msg) (front : List ℕ) → Injects core stream messages front → (more : List Msg) × Injects new (stream ++ piece) (messages ++ more) front
+  pub hears : (stream : List ℕ) (messages : List Msg) (front : List ℕ)
+      → Injects core stream messages front → (more : List Msg)
+      × Injects new (stream ++ piece) (messages ++ more) front

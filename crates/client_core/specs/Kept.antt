@@ -25,18 +25,21 @@ use Rattle.client_core.specs.Clients.{Client, listens, hear, hear_all, fed, inbo
 use Rattle.client_core.specs.Happenings.{waited, end_of_wait}
 
 -- the reader in that role gave all messages of the stream, and goes on
-pub record Reads (r : ReaderParts) (role : Role) (stream : List ℕ) (messages : List Msg) : Type 0 where
-  pub verdict : Verdict (reader_of role) stream
-  pub all : verdict.messages ≡ messages
-  pub open_at : IsOpen r stream messages
+pub record Reads (r : ReaderParts) (role : Role) (stream : List ℕ) (messages : List Msg) : Type 0
+  where
+    pub verdict : Verdict (reader_of role) stream
+    pub all : verdict.messages ≡ messages
+    pub open_at : IsOpen r stream messages
 
--- its screen is the client's, of whose lines those in front were cleared, and so is its conversation
+-- its screen is the client's, of whose lines those in front were cleared, and so is its
+-- conversation
 pub record Hears (h : Hearer) (c : Client) (front : List ℕ) : Type 0 where
   pub shows : Shows h.printer (display c.shown) front
   pub talk : h.talk ≡ c.talk
 
 -- the parts of a core that stands for the client
-pub record Kept (r : ReaderParts) (h : Hearer) (done : Option ClientEnd) (c : Client) (front : List ℕ) : Type 0 where
+pub record Kept (r : ReaderParts) (h : Hearer) (done : Option ClientEnd) (c : Client)
+    (front : List ℕ) : Type 0 where
   pub role : r.role ≡ c.role
   pub hears : Hears h c front
   pub done_is : done ≡ c.done
@@ -49,19 +52,23 @@ Stands core c front = Kept core.reader core.hearer core.done c front
 
 -- whatever client it stood for became another one
 abbrev pub Follows : ClientCore → ClientCore → (Client → Client) → Type 0
-Follows old new next = (c : Client) (front : List ℕ) → Stands old c front → Stands new (next c) front
+Follows old new next =
+    (c : Client) (front : List ℕ) → Stands old c front → Stands new (next c) front
 
 -- ---- a message
 
 -- the hearer's client heard one message, and is done so by then; out of memory, it did not hear it
 abbrev pub Heeds : Msg → Hearer → Hearer → Result (Option ClientEnd) OutOfMemory → Type 0
-Heeds m old new (Ok done) = (c : Client) (front : List ℕ) → c.done ≡ None → Hears old c front → Hears new (hear c m) front × (done ≡ (hear c m).done)
+Heeds m old new (Ok done) = (c : Client) (front : List ℕ) → c.done ≡ None → Hears old c front
+    → Hears new (hear c m) front × (done ≡ (hear c m).done)
 Heeds m old new (Err memory) = (c : Client) (front : List ℕ) → Hears old c front → Hears new c front
 
 -- a message that does not end its client was applied; out of memory, it was not
 abbrev pub Applies : {A : Type 0} → Msg → Hearer → Hearer → Result A OutOfMemory → Type 0
-Applies m old new (Ok unit) = (c : Client) (front : List ℕ) → Hears old c front → Hears new (listens m c) front
-Applies m old new (Err memory) = (c : Client) (front : List ℕ) → Hears old c front → Hears new c front
+Applies m old new (Ok unit) =
+    (c : Client) (front : List ℕ) → Hears old c front → Hears new (listens m c) front
+Applies m old new (Err memory) =
+    (c : Client) (front : List ℕ) → Hears old c front → Hears new c front
 
 -- ---- a piece
 
@@ -69,45 +76,56 @@ abbrev pub out_of_memory : Client → Client
 out_of_memory c = record c { done = Some end.OutOfMemory }
 
 -- it ran out of memory after some of the messages that the piece adds, none of which ended it
-pub record Breaks (r : ReaderParts) (h : Hearer) (done : Option ClientEnd) (c : Client) (piece : List ℕ) (front : List ℕ) : Type 0 where
+pub record Breaks (r : ReaderParts) (h : Hearer) (done : Option ClientEnd) (c : Client)
+    (piece : List ℕ) (front : List ℕ) : Type 0 where
   pub messages : List Msg
   pub first : IsFront messages (drop (length c.heard) (inbox_with piece c).messages)
   pub goes : (hear_all (fed piece c) messages).done ≡ None
   pub kept : Kept r h done (out_of_memory (hear_all (fed piece c) messages)) front
 
 -- parts that stood for a client that went on took a piece
-abbrev pub Takes : ReaderParts → ReaderParts → Hearer → Hearer → Result (Option ClientEnd) OutOfMemory → List ℕ → Type 0
-Takes r r' h h' (Ok done) piece = (c : Client) (front : List ℕ) → Kept r h None c front → Kept r' h' done (got piece c) front
-Takes r r' h h' (Err memory) piece = (c : Client) (front : List ℕ) → Kept r h None c front → Breaks r' h' (Some end.OutOfMemory) c piece front
+abbrev pub Takes : ReaderParts → ReaderParts → Hearer → Hearer
+    → Result (Option ClientEnd) OutOfMemory → List ℕ → Type 0
+Takes r r' h h' (Ok done) piece =
+    (c : Client) (front : List ℕ) → Kept r h None c front → Kept r' h' done (got piece c) front
+Takes r r' h h' (Err memory) piece = (c : Client) (front : List ℕ) → Kept r h None c front
+    → Breaks r' h' (Some end.OutOfMemory) c piece front
 
 -- the core got a piece
 abbrev pub Gets : {A : Type 0} → ClientCore → ClientCore → Result A OutOfMemory → List ℕ → Type 0
 Gets old new (Ok unit) piece = Follows old new (got piece)
-Gets old new (Err memory) piece = (c : Client) (front : List ℕ) → Stands old c front → Breaks new.reader new.hearer new.done c piece front
+Gets old new (Err memory) piece = (c : Client) (front : List ℕ) → Stands old c front
+    → Breaks new.reader new.hearer new.done c piece front
 
 -- ---- a moment
 
 -- it ran out of memory after some of the script's lines that were to run
-pub record StopsRunning (new : ClientCore) (c : Client) (moment : ℕ) (before : Talk) (front : List ℕ) : Type 0 where
+pub record StopsRunning (new : ClientCore) (c : Client) (moment : ℕ) (before : Talk)
+    (front : List ℕ) : Type 0 where
   pub talk : Talk
   pub runs : run_script talk ≡ run_script (told moment before)
   pub stands : Stands new (record c { talk = Some talk; done = Some end.OutOfMemory }) front
 
 abbrev pub StopsAt : ClientCore → ClientCore → ℕ → Type 0
-StopsAt old new moment = (c : Client) (front : List ℕ) (before : Talk) → c.talk ≡ Some before → Stands old c front → StopsRunning new c moment before front
+StopsAt old new moment = (c : Client) (front : List ℕ) (before : Talk) → c.talk ≡ Some before
+    → Stands old c front → StopsRunning new c moment before front
 
--- a conversation that went on passed to a moment, and its client is done so by then; out of memory, some of the script's lines ran
+-- a conversation that went on passed to a moment, and its client is done so by then; out of memory,
+-- some of the script's lines ran
 abbrev pub Passes : ℕ → Option Talk → Option Talk → Result (Option ClientEnd) OutOfMemory → Type 0
 Passes moment None new (Ok done) = (new ≡ None) × (done ≡ None)
-Passes moment (Some t) new (Ok done) = (new ≡ Some (waited (told moment t))) × (done ≡ end_of_wait (told moment t))
+Passes moment (Some t) new (Ok done) =
+    (new ≡ Some (waited (told moment t))) × (done ≡ end_of_wait (told moment t))
 Passes moment None new (Err memory) = ⊥
-Passes moment (Some t) new (Err memory) = (after : Talk) × (new ≡ Some after) × (run_script after ≡ run_script (told moment t))
+Passes moment (Some t) new (Err memory) =
+    (after : Talk) × (new ≡ Some after) × (run_script after ≡ run_script (told moment t))
 
 -- ---- what it reads off
 
 -- a frame is there in part, as the verdict has it
 abbrev pub IsPartial : ClientCore → Option ℕ → Type 0
-IsPartial core found = (c : Client) (front : List ℕ) → Stands core c front → (v : Verdict (reader_of c.role) c.received) → found ≡ partial_at v
+IsPartial core found = (c : Client) (front : List ℕ) → Stands core c front
+    → (v : Verdict (reader_of c.role) c.received) → found ≡ partial_at v
 
 -- the lines that were printed and not cleared
 abbrev pub lines_in : ClientCore → List ℕ
@@ -115,11 +133,13 @@ lines_in core = core.hearer.printer.lines.items
 
 -- the lines were cleared
 abbrev pub ClearsLines : ClientCore → ClientCore → Type 0
-ClearsLines old new = (c : Client) (front : List ℕ) → Stands old c front → Stands new c (front ++ lines_in old)
+ClearsLines old new =
+    (c : Client) (front : List ℕ) → Stands old c front → Stands new c (front ++ lines_in old)
 
 -- ---- the end
 
--- the bytes are the lines of a client that ended after its screen got these messages: every key and every mouse button went up, one up for each down, and nothing was down where the cursor left
+-- the bytes are the lines of a client that ended after its screen got these messages: every key and
+-- every mouse button went up, one up for each down, and nothing was down where the cursor left
 pub record Released (messages : List Msg) (bytes : List ℕ) : Type 0 where
   pub printed : bytes ≡ flat_map line_of (all_lines messages)
   pub balanced : Balanced (all_lines messages)
@@ -127,4 +147,5 @@ pub record Released (messages : List Msg) (bytes : List ℕ) : Type 0 where
 
 -- the client's lines with these bytes after them are released, whatever happened to it
 abbrev pub EndsReleased : ClientCore → List ℕ → Type 0
-EndsReleased core bytes = (c : Client) (front : List ℕ) → Stands core c front → Released c.shown ((front ++ lines_in core) ++ bytes)
+EndsReleased core bytes = (c : Client) (front : List ℕ) → Stands core c front
+    → Released c.shown ((front ++ lines_in core) ++ bytes)

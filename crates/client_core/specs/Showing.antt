@@ -11,7 +11,8 @@ use Rattle.client_core.specs.declared.printer.TheConstants.{ROOM}
 use Rattle.client_core.specs.Clipboards.{AreFor}
 use Rattle.client_core.specs.Hearing.{Display, heard}
 
--- its injector is that of the screen, its clipboards have what is on its way, and what was printed and cleared and then its lines are the screen's lines
+-- its injector is that of the screen, its clipboards have what is on its way, and what was printed
+-- and cleared and then its lines are the screen's lines
 pub record Shows (p : Printer) (d : Display) (front : List ℕ) : Type 0 where
   pub stands : Stands p.injector d.screen
   pub clips : AreFor p.clips d.parts
@@ -41,7 +42,8 @@ pub record SamePrinted (old new : Printer) : Type 0 where
 
 -- its lines were cleared
 abbrev pub Clears : Printer → Printer → Type 0
-Clears old new = (d : Display) (front : List ℕ) → Shows old d front → Shows new d (front ++ old.lines.items)
+Clears old new =
+    (d : Display) (front : List ℕ) → Shows old d front → Shows new d (front ++ old.lines.items)
 
 -- the bytes are the screen's lines, and then those of all that is down going up
 abbrev pub Releases : Screen → List ℕ → Type 0
@@ -49,4 +51,5 @@ Releases s bytes = bytes ≡ flat_map line_of (s.lines ++ releases s.lines)
 
 -- these bytes after its lines let go of all that is down
 abbrev pub LetsGo : Printer → List ℕ → Type 0
-LetsGo p bytes = (d : Display) (front : List ℕ) → Shows p d front → Releases d.screen ((front ++ p.lines.items) ++ bytes)
+LetsGo p bytes = (d : Display) (front : List ℕ) → Shows p d front
+    → Releases d.screen ((front ++ p.lines.items) ++ bytes)

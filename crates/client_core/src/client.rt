@@ -1,6 +1,23 @@
 //! The client.
 
-ghost use Rattle.std.specs.Prelude.{◌≡◌, ◌≢◌, ◌+◌, ◌≤◌, ◌^◌, ◌<◌, [], List, ℕ, Some, None, IsSome, OnErr, OnOk, length, unwrap_or};
+ghost use Rattle.std.specs.Prelude.{
+  ◌≡◌,
+  ◌≢◌,
+  ◌+◌,
+  ◌≤◌,
+  ◌^◌,
+  ◌<◌,
+  [],
+  List,
+  ℕ,
+  Some,
+  None,
+  IsSome,
+  OnErr,
+  OnOk,
+  length,
+  unwrap_or,
+};
 ghost use Rattle.client_core.specs.Clients.{Client};
 ghost use Rattle.client_core.specs.Kept.{Passes};
 
@@ -15,9 +32,9 @@ use script_screen::ClientScript;
 use share_base::{Lines, OutOfMemory, ScreenName};
 use std::alloc::Global;
 
-/// A client over the stream of a server, in whatever pieces it comes. It prints what is injected into its
-/// screen, and keeps what is down there. One that joins a server also answers it, waits for it, and runs
-/// a script. Moments are in milliseconds.
+/// A client over the stream of a server, in whatever pieces it comes. It prints what is injected
+/// into its screen, and keeps what is down there. One that joins a server also answers it, waits
+/// for it, and runs a script. Moments are in milliseconds.
 ///
 /// Only `bytes` and `moment` allocate.
 #[derive(Drop)]
@@ -31,8 +48,8 @@ impl ClientCore {
     ghost use Rattle.client_core.specs.Happenings.{injecting, joining, passes, took, ended, untaken, untaken_of, due_of, moment_of};
     ghost use Rattle.client_core.specs.Kept.{Stands, Follows, Gets, StopsAt, IsPartial, ClearsLines, EndsReleased, lines_in};
 
-    /// Creates the client of injection: it hears every message of a server, sends nothing, and no moment
-    /// counts.
+    /// Creates the client of injection: it hears every message of a server, sends nothing, and no
+    /// moment counts.
     pub fn injecting(alloc: Global) -> ClientCore
         ensures stands { Stands result injecting [] }
         ensures role { result.reader.role ≡ Role.Observer End.Server }
@@ -50,8 +67,8 @@ impl ClientCore {
         }
     }
 
-    /// Creates a client that joins a server, with a screen of that name and size, in pixels, at the moment
-    /// `now`.
+    /// Creates a client that joins a server, with a screen of that name and size, in pixels, at the
+    /// moment `now`.
     pub fn new(
         alloc: Global,
         name: ScreenName,
@@ -75,12 +92,12 @@ impl ClientCore {
         }
     }
 
-    /// Hears the next piece of the stream, which has fewer than 2^63 bytes in all. A message is applied
-    /// wholly or not at all. Once the client is done, nothing more is heard.
+    /// Hears the next piece of the stream, which has fewer than 2^63 bytes in all. A message is
+    /// applied wholly or not at all. Once the client is done, nothing more is heard.
     ///
-    /// On `OutOfMemory` the client has heard the messages before the one for which memory ran out. It is
-    /// done then, as `ClientEnd::OutOfMemory`, and every later call of `bytes` and `moment` answers
-    /// `OutOfMemory`.
+    /// On `OutOfMemory` the client has heard the messages before the one for which memory ran out.
+    /// It is done then, as `ClientEnd::OutOfMemory`, and every later call of `bytes` and `moment`
+    /// answers `OutOfMemory`.
     pub fn bytes(&mut self, piece: &[u8]) -> Result<(), OutOfMemory>
         requires { self.old.reader.total + length piece.now < 2 ^ 63 }
         ensures gets { self.old.done ≡ None → Gets self.old self.new result piece.now }
@@ -106,9 +123,9 @@ impl ClientCore {
         }
     }
 
-    /// Passes to that moment, if it is later than the client's own. A server that was not heard for three
-    /// of its rates is lost; else the lines of the script that may run do. Once the client is done,
-    /// nothing changes.
+    /// Passes to that moment, if it is later than the client's own. A server that was not heard for
+    /// three of its rates is lost; else the lines of the script that may run do. Once the client is
+    /// done, nothing changes.
     ///
     /// On `OutOfMemory` some of those lines have run. The client is done then, as after `bytes`.
     pub fn moment(&mut self, moment: u64) -> Result<(), OutOfMemory>
@@ -143,8 +160,8 @@ impl ClientCore {
         self.done
     }
 
-    /// Returns the offset of a frame of which some bytes have come and not all. `None` if there is none,
-    /// or if the client is done.
+    /// Returns the offset of a frame of which some bytes have come and not all. `None` if there is
+    /// none, or if the client is done.
     pub fn pending(&self) -> Option<u64>
         ensures goes { self.now.done ≡ None → IsPartial self.now result }
         ensures over { IsSome self.now.done → result ≡ None }
@@ -192,11 +209,12 @@ impl ClientCore {
         }
     }
 
-    /// Returns the moment at which something is due: the death of a server that stays silent, the end of
-    /// a sleep that holds the script, or the client's own moment if a line may run.
+    /// Returns the moment at which something is due: the death of a server that stays silent, the
+    /// end of a sleep that holds the script, or the client's own moment if a line may run.
     /// 18,446,744,073,709,551,615 if nothing is, once the client is done, and for one that injects.
     pub fn due(&self) -> u64
-        ensures { (c : Client) (front : List ℕ) → Stands self.now c front → result ≡ due_of c.done c.talk }
+        ensures { (c : Client) (front : List ℕ) → Stands self.now c front
+            → result ≡ due_of c.done c.talk }
     {
         match (&self.hearer.talk, self.done) {
             (Some(talk), None) => talk.due(),
@@ -206,7 +224,8 @@ impl ClientCore {
 
     /// Returns the client's own moment: the greatest that was given to it. 0 for one that injects.
     pub fn at(&self) -> u64
-        ensures { (c : Client) (front : List ℕ) → Stands self.now c front → result ≡ moment_of c.talk }
+        ensures { (c : Client) (front : List ℕ) → Stands self.now c front
+            → result ≡ moment_of c.talk }
     {
         match &self.hearer.talk {
             Some(talk) => talk.at(),
@@ -214,8 +233,8 @@ impl ClientCore {
         }
     }
 
-    /// Ends the client: all that is down goes up, in the lines that it returns. It is called once, with
-    /// the end that the caller knows, which counts where the client has none yet.
+    /// Ends the client: all that is down goes up, in the lines that it returns. It is called once,
+    /// with the end that the caller knows, which counts where the client has none yet.
     pub fn ended(&mut self, why: ClientEnd) -> Lines
         ensures done { self.new.done ≡ Some (unwrap_or self.old.done why) }
         ensures released { EndsReleased self.old result }
@@ -229,8 +248,8 @@ impl ClientCore {
     }
 }
 
-// Lets a client that goes on pass to a moment, and returns its end, if that comes then. On `OutOfMemory`
-// some lines of its script have run.
+// Lets a client that goes on pass to a moment, and returns its end, if that comes then. On
+// `OutOfMemory` some lines of its script have run.
 fn pass(hearer: &mut Hearer, moment: u64) -> Result<Option<ClientEnd>, OutOfMemory>
     ensures talks { Passes moment hearer.old.talk hearer.new.talk result }
     ensures printer { hearer.new.printer ≡ hearer.old.printer }

@@ -18,7 +18,8 @@ const STREAMS: [(&[u8], &[u8]); 5] = [
         b"\0\0\0\x0fDCLP\0\0\0\0\x01\x01\0\0\0\x011\0\0\0\x0fDCLP\x01\0\0\0\x02\x01\0\0\0\x011\0\0\0\x0fDCLP\0\0\0\0\x01\x02\0\0\0\x01a\0\0\0\x04COUT\0\0\0\x0fDCLP\x01\0\0\0\x02\x02\0\0\0\x01b\0\0\0\x09CCLP\0\0\0\0\0\0\0\0\x0eDCLP\x01\0\0\0\x02\x03\0\0\0\0\0\0\0\x04CROP\0\0\0\x0eDCLP\0\0\0\0\x01\x03\0\0\0\0",
         b"leave\ngrab 0\nclip 1 62\nreset options\nclip 0 61\n",
     ),
-    // A start that is dropped: no digits, too many of them, no digit, and a size above the limit; what was going is dropped with it.
+    // A start that is dropped: no digits, too many of them, no digit, and a size above the limit;
+    // what was going is dropped with it.
     (
         b"\0\0\0\x0eDCLP\0\0\0\0\x01\x01\0\0\0\0\0\0\0\x0eDCLP\0\0\0\0\x01\x03\0\0\0\0\0\0\0\x19DCLP\0\0\0\0\x01\x01\0\0\0\x0b00000000000\0\0\0\x0eDCLP\0\0\0\0\x01\x03\0\0\0\0\0\0\0\x0fDCLP\0\0\0\0\x01\x01\0\0\0\x010\0\0\0\x10DCLP\0\0\0\0\x01\x01\0\0\0\x021x\0\0\0\x0eDCLP\0\0\0\0\x01\x03\0\0\0\0\0\0\0\x15DCLP\0\0\0\0\x01\x01\0\0\0\x074194305\0\0\0\x0eDCLP\0\0\0\0\x01\x03\0\0\0\0",
         b"",

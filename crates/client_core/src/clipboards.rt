@@ -44,8 +44,8 @@ impl Clipboards {
         }
     }
 
-    /// Returns how many bytes the line may have that a part of that mark brings: an end brings that of
-    /// all bytes that came before it.
+    /// Returns how many bytes the line may have that a part of that mark brings: an end brings that
+    /// of all bytes that came before it.
     pub fn room(&self, clip: ClipId, mark: ClipMark) -> usize
         ensures { result ≡ room_for clip mark self.now }
     {
@@ -64,8 +64,8 @@ impl Clipboards {
         }
     }
 
-    /// Takes the next part, and returns the bytes of the whole clipboard that it ends, if it ends one. On
-    /// `OutOfMemory` nothing changes.
+    /// Takes the next part, and returns the bytes of the whole clipboard that it ends, if it ends
+    /// one. On `OutOfMemory` nothing changes.
     pub fn take(
         &mut self,
         clip: ClipId,
@@ -74,7 +74,9 @@ impl Clipboards {
         bytes: &[u8],
     ) -> Result<Option<Octets>, OutOfMemory>
         ensures brings { IfOk result (Brings self.old self.new (part mark clip seq bytes.now)) }
-        ensures room { IfOk result (λ whole. IfSome whole (λ all. room_of (line.Clip clip all) ≤ room_for clip mark self.old)) }
+        ensures room { IfOk result
+            (λ whole. IfSome whole
+            (λ all. room_of (line.Clip clip all) ≤ room_for clip mark self.old)) }
         ensures err { OnErr result (self.new ≡ self.old) }
     {
         match clip {

@@ -42,7 +42,8 @@ fn leave(printer: &mut Printer, talk: &mut Conversation) -> Result<(), OutOfMemo
 #[tactic(auto, using(crate::proofs::Hearers::shows_one, crate::proofs::Hearers::shows_none, crate::proofs::Hearers::no_answer))]
 fn converse_on(printer: &mut Printer, talk: &mut Conversation, msg: &Msg) -> Result<(), OutOfMemory>
     requires { msg.now ≢ message.Leave }
-    ensures shown { OnOk result (Turns (λ d. heard_all d (shown_of (Some talk.old) msg.now)) printer.old printer.new) }
+    ensures shown { OnOk result
+        (Turns (λ d. heard_all d (shown_of (Some talk.old) msg.now)) printer.old printer.new) }
     ensures heard { OnOk result (talk.new ≡ hears msg.now talk.old) }
     ensures same_screen { OnErr result (ShowsOn printer.old printer.new) }
     ensures same_talk { OnErr result (talk.new ≡ talk.old) }
@@ -60,7 +61,8 @@ fn converse_on(printer: &mut Printer, talk: &mut Conversation, msg: &Msg) -> Res
 // Applies one message of the conversation. On `OutOfMemory` neither the screen nor the conversation
 // changes.
 fn converse(printer: &mut Printer, talk: &mut Conversation, msg: &Msg) -> Result<(), OutOfMemory>
-    ensures shown { OnOk result (Turns (λ d. heard_all d (shown_of (Some talk.old) msg.now)) printer.old printer.new) }
+    ensures shown { OnOk result
+        (Turns (λ d. heard_all d (shown_of (Some talk.old) msg.now)) printer.old printer.new) }
     ensures heard { OnOk result (talk.new ≡ hears msg.now talk.old) }
     ensures same_screen { OnErr result (ShowsOn printer.old printer.new) }
     ensures same_talk { OnErr result (talk.new ≡ talk.old) }

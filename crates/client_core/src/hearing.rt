@@ -18,8 +18,8 @@ fn heed(hearer: &mut Hearer, msg: Msg) -> Result<Option<ClientEnd>, OutOfMemory>
     hearer.heed(&msg)
 }
 
-/// Hears the messages of the next piece up to the first that ends the client, and returns the end. On
-/// `OutOfMemory` the messages before the one for which memory ran out are heard.
+/// Hears the messages of the next piece up to the first that ends the client, and returns the end.
+/// On `OutOfMemory` the messages before the one for which memory ran out are heard.
 pub fn hear_piece(
     reader: &mut MessageReader,
     hearer: &mut Hearer,

@@ -23,7 +23,8 @@ pub fn add_line(lines: &mut Vec<u8>, line: Line) -> Result<(), OutOfMemory>
 
 /// Adds a line for each option. After `OutOfMemory` those of some of them are there.
 pub fn add_options(lines: &mut Vec<u8>, words: &[u32]) -> Result<(), OutOfMemory>
-    ensures ok { OnOk result (lines.new.items ≡ lines.old.items ++ flat_map line_of (option_lines words.now)) }
+    ensures ok { OnOk result
+        (lines.new.items ≡ lines.old.items ++ flat_map line_of (option_lines words.now)) }
     ensures err { OnErr result ((more : List ℕ) × (lines.new.items ≡ lines.old.items ++ more)) }
 {
     let mut rest = words;

@@ -17,8 +17,8 @@ use std::alloc::Global;
 /// Room for the lines of one message that is applied to an injector, in bytes.
 const ROOM: usize = 16384;
 
-/// A screen's injector, the clipboards that are on their way, and the lines that were printed and not
-/// cleared.
+/// A screen's injector, the clipboards that are on their way, and the lines that were printed and
+/// not cleared.
 #[derive(Drop)]
 pub struct Printer {
     injector: Injector,
@@ -90,7 +90,8 @@ impl Printer {
         mark: ClipMark,
         bytes: &[u8],
     ) -> Result<(), OutOfMemory>
-        ensures ok { OnOk result (Hears (message.ClipPart clip seq mark bytes.now) self.old self.new) }
+        ensures ok { OnOk result
+            (Hears (message.ClipPart clip seq mark bytes.now) self.old self.new) }
         ensures err { OnErr result (ShowsOn self.old self.new) }
     {
         self.lines.reserve(self.clips.room(clip, mark))?;
@@ -101,7 +102,8 @@ impl Printer {
     }
 
     fn apply(&mut self, msg: &Msg) -> Result<(), OutOfMemory>
-        ensures ok { OnOk result (Turns (λ d. with_screen (after d.screen (Applies msg.now)) d) self.old self.new) }
+        ensures ok { OnOk result
+            (Turns (λ d. with_screen (after d.screen (Applies msg.now)) d) self.old self.new) }
         ensures err { OnErr result (ShowsOn self.old self.new) }
     {
         self.make_room()?;

@@ -7,8 +7,9 @@ use std::alloc::Global;
 use std::process::Abort;
 use std::test::*;
 
-/// The script of a client `pad` of 1024 x 768 that is made at 0; two pieces of the server's stream, with a
-/// moment after each; and then what it printed, what it sent, how it ended, and when something is due.
+/// The script of a client `pad` of 1024 x 768 that is made at 0; two pieces of the server's stream,
+/// with a moment after each; and then what it printed, what it sent, how it ended, and when
+/// something is due.
 type Talk = (
     &'static [u8],
     &'static [u8],
@@ -248,7 +249,8 @@ const TALKS: [Talk; 27] = [
         None,
         9000,
     ),
-    // The script runs at a moment, from the first `CIAK` on; moves print nothing until the next one.
+    // The script runs at a moment, from the first `CIAK` on; moves print nothing until the next
+    // one.
     (
         b"resize 800 600",
         b"\0\0\0\x0bSynergy\0\x01\0\x06\0\0\0\x04CIAK\0\0\0\x08DMMV\0\x01\0\x02",
@@ -282,7 +284,8 @@ const TALKS: [Talk; 27] = [
         None,
         9060,
     ),
-    // A copy grabs at once, and is sent at the next leaving, once, with the sequence of the latest entering.
+    // A copy grabs at once, and is sent at the next leaving, once, with the sequence of the latest
+    // entering.
     (
         b"copy 0 6869",
         b"\0\0\0\x0bSynergy\0\x01\0\x06\0\0\0\x04CIAK",

@@ -6,8 +6,8 @@ use std::alloc::Global;
 use std::process::Abort;
 use std::test::*;
 
-/// A stream, what is printed of it, what the end adds, how the stream ends the client, and the offset of
-/// a frame that is there in part.
+/// A stream, what is printed of it, what the end adds, how the stream ends the client, and the
+/// offset of a frame that is there in part.
 type Row = (
     &'static [u8],
     &'static [u8],

@@ -30,7 +30,8 @@ answers _ t = t
 -- ---- notes
 
 abbrev pub with_rate : ℕ → Talk → Talk
-with_rate rate t = record t { alive = record { sent = t.alive.sent; heard = t.alive.heard; rate = rate } }
+with_rate rate t =
+    record t { alive = record { sent = t.alive.sent; heard = t.alive.heard; rate = rate } }
 
 abbrev pub notes_of : Msg → Talk → Talk
 notes_of msg.InfoAck t = record t { is_joined = true; is_resized = false }
@@ -49,7 +50,8 @@ hears m t = notes m (answers m t)
 
 -- ---- the screen
 
--- whether the screen gets the message: not one that is only answered, nor a move from before the server knows the new size
+-- whether the screen gets the message: not one that is only answered, nor a move from before the
+-- server knows the new size
 abbrev pub is_for_screen : Talk → Msg → Bool
 is_for_screen t (msg.Hello major minor) = false
 is_for_screen t msg.QueryInfo = false

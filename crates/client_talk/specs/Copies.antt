@@ -36,4 +36,5 @@ copy_messages clip seq (Some bytes) = clip_messages clip seq bytes
 
 -- the clipboard first
 abbrev pub copies_messages : ℕ → Copies → List Msg
-copies_messages seq copies = copy_messages Clipboard seq copies.clipboard ++ copy_messages Selection seq copies.selection
+copies_messages seq copies =
+    copy_messages Clipboard seq copies.clipboard ++ copy_messages Selection seq copies.selection

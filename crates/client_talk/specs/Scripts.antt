@@ -62,7 +62,10 @@ never = 18446744073709551615
 
 -- the least of the server's death and these two
 abbrev pub due : Talk → ℕ
-due t = fold min never (option_to_list (death_of t.alive) ++ option_to_list (sleep_due_at t.at t.sleeps_until) ++ option_to_list (line_due_of t t.lines))
+due t =
+    fold min never
+    (option_to_list (death_of t.alive) ++ option_to_list (sleep_due_at t.at t.sleeps_until)
+    ++ option_to_list (line_due_of t t.lines))
 
 -- ---- running on
 

@@ -63,7 +63,11 @@ sends m t = record t { untaken = outbox.queued m t.untaken }
 
 -- what was copied is sent with the sequence of the latest entering, once
 abbrev pub sends_copies : Talk → Talk
-sends_copies t = record t { copies = no_copies; untaken = outbox.queued_all (copies_messages t.entered t.copies) t.untaken }
+sends_copies t =
+    record t {
+      copies = no_copies;
+      untaken = outbox.queued_all (copies_messages t.entered t.copies) t.untaken;
+    }
 
 -- the copy of a clipboard is to be sent, in place of an earlier one
 abbrev pub keeps_copy : ClipId → List ℕ → Talk → Talk

@@ -42,7 +42,8 @@ fn queue_part(
     bytes: &[u8],
 ) -> Result<(), OutOfMemory>
     requires { length bytes.now ≤ 32768 }
-    ensures ok { OnOk result (outbox.new ≡ queued (message_of (part mark clip seq bytes.now)) outbox.old) }
+    ensures ok { OnOk result
+        (outbox.new ≡ queued (message_of (part mark clip seq bytes.now)) outbox.old) }
     ensures begins { Begins outbox.old outbox.new }
 {
     let msg = part_message(outbox.alloc(), clip, seq, mark, bytes)?;
@@ -56,7 +57,8 @@ fn queue_chunks(
     seq: u32,
     bytes: &[u8],
 ) -> Result<(), OutOfMemory>
-    ensures ok { OnOk result (outbox.new ≡ queued_all (chunk_messages clip seq bytes.now) outbox.old) }
+    ensures ok { OnOk result
+        (outbox.new ≡ queued_all (chunk_messages clip seq bytes.now) outbox.old) }
     ensures begins { Begins outbox.old outbox.new }
 {
     for chunk in bytes.chunks(CHUNK_LEN) {
@@ -65,10 +67,11 @@ fn queue_chunks(
     Ok(())
 }
 
-// Queues the messages of a clipboard: a start that says how many bytes there are, the bytes in chunks,
-// and an end. On `OutOfMemory` some are queued.
+// Queues the messages of a clipboard: a start that says how many bytes there are, the bytes in
+// chunks, and an end. On `OutOfMemory` some are queued.
 fn queue_clip(outbox: &mut Outbox, clip: ClipId, seq: u32, bytes: &[u8]) -> Result<(), OutOfMemory>
-    ensures ok { OnOk result (outbox.new ≡ queued_all (clip_messages clip seq bytes.now) outbox.old) }
+    ensures ok { OnOk result
+        (outbox.new ≡ queued_all (clip_messages clip seq bytes.now) outbox.old) }
     ensures begins { Begins outbox.old outbox.new }
 {
     let mut buffer = Buffer::new();
@@ -78,14 +81,16 @@ fn queue_clip(outbox: &mut Outbox, clip: ClipId, seq: u32, bytes: &[u8]) -> Resu
     queue_part(outbox, clip, seq, ClipMark::End, &[])
 }
 
-// Queues the copy of a clipboard, if there is one. On `OutOfMemory` some of its messages are queued.
+// Queues the copy of a clipboard, if there is one. On `OutOfMemory` some of its messages are
+// queued.
 fn queue_copy(
     outbox: &mut Outbox,
     clip: ClipId,
     seq: u32,
     copies: &Copies,
 ) -> Result<(), OutOfMemory>
-    ensures ok { OnOk result (outbox.new ≡ queued_all (copy_messages clip seq (copy_of clip copies.now)) outbox.old) }
+    ensures ok { OnOk result
+        (outbox.new ≡ queued_all (copy_messages clip seq (copy_of clip copies.now)) outbox.old) }
     ensures begins { Begins outbox.old outbox.new }
 {
     match copies.get(clip) {

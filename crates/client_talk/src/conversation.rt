@@ -1,6 +1,19 @@
 //! What a client that joins a server keeps besides its screen.
 
-ghost use Rattle.std.specs.Prelude.{◌≡◌, ◌≤◌, ◌∷◌, [], length, drop, fold, min, IfOk, OnOk, OnErr, MatchOption};
+ghost use Rattle.std.specs.Prelude.{
+  ◌≡◌,
+  ◌≤◌,
+  ◌∷◌,
+  [],
+  length,
+  drop,
+  fold,
+  min,
+  IfOk,
+  OnOk,
+  OnErr,
+  MatchOption,
+};
 ghost use Rattle.std.specs.Option.{option_to_list};
 ghost use Rattle.wire_frames.specs.declared.limits.TheConstants.{BODY_LIMIT};
 ghost use Rattle.message_codec.specs.Spelling.{body_of};
@@ -30,7 +43,8 @@ use std::marker::Model;
 pub const DEFAULT_RATE: u32 = 3_000;
 
 /// A client's side of the conversation with its server: what it answers, how long it waits for the
-/// server, and its script. Moments are in milliseconds; one above `LAST_MOMENT` counts as that moment.
+/// server, and its script. Moments are in milliseconds; one above `LAST_MOMENT` counts as that
+/// moment.
 ///
 /// Only `answer` and `run_script` allocate.
 #[derive(Drop)]
@@ -97,8 +111,8 @@ fn earliest(due: u64, moment: Option<u64>) -> u64
 }
 
 impl Conversation {
-    /// Begins the conversation of a client with a screen of that name and size, in pixels, at the moment
-    /// `now`. It has heard and sent nothing.
+    /// Begins the conversation of a client with a screen of that name and size, in pixels, at the
+    /// moment `now`. It has heard and sent nothing.
     pub fn new(
         alloc: Global,
         name: ScreenName,
@@ -132,9 +146,9 @@ impl Conversation {
         }
     }
 
-    /// Queues the answer to a message, if it has one: a hello is answered by the client's, a question for
-    /// information by that of the screen, a beat by a beat, and the cursor's leaving by what the script
-    /// copied. On `OutOfMemory` nothing changes.
+    /// Queues the answer to a message, if it has one: a hello is answered by the client's, a
+    /// question for information by that of the screen, a beat by a beat, and the cursor's leaving
+    /// by what the script copied. On `OutOfMemory` nothing changes.
     pub fn answer(&mut self, msg: &Msg) -> Result<(), OutOfMemory>
         ensures ok { OnOk result (self.new ≡ answers msg.now self.old) }
         ensures err { OnErr result (self.new ≡ self.old) }
@@ -149,7 +163,8 @@ impl Conversation {
     }
 
     fn answer_hello(&mut self) -> Result<(), OutOfMemory>
-        ensures ok { OnOk result (self.new ≡ spec.sends (message.HelloBack MAJOR MINOR self.old.name) self.old) }
+        ensures ok { OnOk result
+            (self.new ≡ spec.sends (message.HelloBack MAJOR MINOR self.old.name) self.old) }
         ensures err { OnErr result (self.new ≡ self.old) }
     {
         let msg = hello_back(self.alloc, &self.name)?;
@@ -157,7 +172,8 @@ impl Conversation {
     }
 
     fn answer_query(&mut self) -> Result<(), OutOfMemory>
-        ensures ok { OnOk result (self.new ≡ spec.sends (answer_spec.information self.old.w self.old.h) self.old) }
+        ensures ok { OnOk result
+            (self.new ≡ spec.sends (answer_spec.information self.old.w self.old.h) self.old) }
         ensures err { OnErr result (self.new ≡ self.old) }
     {
         let msg = self.information();
@@ -188,8 +204,9 @@ impl Conversation {
         self.outbox.queue(msg)
     }
 
-    /// Notes a message: that the server was heard, whether it took the screen's information, the rate of
-    /// its beats, the sequence of an entering, and that a clipboard was taken by another screen.
+    /// Notes a message: that the server was heard, whether it took the screen's information, the
+    /// rate of its beats, the sequence of an entering, and that a clipboard was taken by another
+    /// screen.
     pub fn note(&mut self, msg: &Msg)
         ensures { self.new ≡ notes msg.now self.old }
     {
@@ -209,8 +226,8 @@ impl Conversation {
         }
     }
 
-    /// Tells whether the screen gets a message: not one that is only answered, nor a `DMMV` between a
-    /// change of the size and the next `CIAK`.
+    /// Tells whether the screen gets a message: not one that is only answered, nor a `DMMV` between
+    /// a change of the size and the next `CIAK`.
     pub fn is_for_screen(&self, msg: &Msg) -> bool
         ensures { result ≡ answer_spec.is_for_screen self.now msg.now }
     {
@@ -235,8 +252,8 @@ impl Conversation {
         self.at
     }
 
-    /// Tells whether the server counts as dead at the client's own moment: it was not heard for three of
-    /// its rates. It never does at a rate of 0.
+    /// Tells whether the server counts as dead at the client's own moment: it was not heard for
+    /// three of its rates. It never does at a rate of 0.
     pub fn is_dead(&self) -> bool
         ensures { result ≡ spec.is_dead self.now }
     {
@@ -259,8 +276,8 @@ impl Conversation {
         Ok(())
     }
 
-    /// Returns the moment at which something is due, the least of these: the server's death, the end of a
-    /// sleep that holds the script, and the client's own moment if the next line may run.
+    /// Returns the moment at which something is due, the least of these: the server's death, the
+    /// end of a sleep that holds the script, and the client's own moment if the next line may run.
     /// 18,446,744,073,709,551,615 if nothing is.
     pub fn due(&self) -> u64
         ensures { result ≡ script_spec.due self.now }
@@ -322,7 +339,8 @@ impl Conversation {
 
     // The first line that has not run.
     fn next_line(&self) -> Option<&ClientLine>
-        ensures { MatchOption result (self.now.lines ≡ []) (λ l. self.now.lines ≡ l.now ∷ drop 1 self.now.lines) }
+        ensures { MatchOption result (self.now.lines ≡ [])
+            (λ l. self.now.lines ≡ l.now ∷ drop 1 self.now.lines) }
     {
         self.script.lines().get(self.ran)
     }

@@ -15,8 +15,8 @@ use std::marker::Model;
 /// How many bytes may be queued and not taken.
 pub const MOST_UNTAKEN: u64 = 16_777_216;
 
-/// The frames that are queued for the server, up to the first one with which more than `MOST_UNTAKEN`
-/// bytes would be untaken. That one and all later ones are left out.
+/// The frames that are queued for the server, up to the first one with which more than
+/// `MOST_UNTAKEN` bytes would be untaken. That one and all later ones are left out.
 #[derive(Drop)]
 pub struct Outbox {
     alloc: Global,
@@ -53,8 +53,8 @@ impl Outbox {
         }
     }
 
-    /// Queues the frame of a message. If there is no room for it, the queue is slow from then on. On
-    /// `OutOfMemory` the queue is unchanged.
+    /// Queues the frame of a message. If there is no room for it, the queue is slow from then on.
+    /// On `OutOfMemory` the queue is unchanged.
     pub fn queue(&mut self, msg: &Msg) -> Result<(), OutOfMemory>
         requires { length (body_of msg.now) ≤ BODY_LIMIT }
         ensures ok { OnOk result (self.new ≡ queued msg.now self.old) }

@@ -43,7 +43,8 @@ pub record Sends (m : Msg) (old new : Connection) : Type 0 where
 
 -- the queue stands for what it stood for
 abbrev pub StaysQueue : QueueParts → QueueParts → Type 0
-StaysQueue old new = (routed : List Entry) (serial : ℕ) → queues.Stands old routed serial → queues.Stands new routed serial
+StaysQueue old new = (routed : List Entry) (serial : ℕ) → queues.Stands old routed serial
+    → queues.Stands new routed serial
 
 -- it parts for that cause, and where the cause says so, what is queued is dropped
 pub record Parts (cause : PartCause) (now : ℕ) (old new : Connection) : Type 0 where

@@ -6,4 +6,5 @@ abbrev pub FirstChanges : {X : Type 0} → (X → Bool) → (X → X → Type 0)
 FirstChanges test R [] [] = Unit {0}
 FirstChanges test R [] (y ∷ ys) = ⊥
 FirstChanges test R (x ∷ xs) [] = ⊥
-FirstChanges test R (x ∷ xs) (y ∷ ys) = MatchBool (test x) (R x y × (ys ≡ xs)) ((y ≡ x) × FirstChanges test R xs ys)
+FirstChanges test R (x ∷ xs) (y ∷ ys) =
+    MatchBool (test x) (R x y × (ys ≡ xs)) ((y ≡ x) × FirstChanges test R xs ys)

@@ -18,7 +18,8 @@ with_assembly Clipboard a c = record c { clipboard = a }
 with_assembly Selection a c = record c { selection = a }
 
 -- whatever parts came before, it is the newest of them, and the answer is the whole that it ends
-pub record TakesPart (clip : ClipId) (seq : ℕ) (mark : ClipMark) (bytes : List ℕ) (whole : Option (List ℕ)) (old new : Connection) : Type 0 where
+pub record TakesPart (clip : ClipId) (seq : ℕ) (mark : ClipMark) (bytes : List ℕ)
+    (whole : Option (List ℕ)) (old new : Connection) : Type 0 where
   pub found : (limit : ℕ) (older : List Part) → StandsFor limit clip (assembly_of clip old) older
       → whole ≡ whole_at limit (part mark clip seq bytes) older
   pub takes : (limit : ℕ) (older : List Part) → StandsFor limit clip (assembly_of clip old) older

@@ -12,8 +12,9 @@ use Rattle.send_queue.specs.Standing as queues
 use Rattle.connection_table.specs.declared.connection.Connection as kept
 use Rattle.connection_table.specs.PhaseOf.{phase_of}
 
--- what is told beside the machine's connections: the entries that were routed, the bytes that came from each and the
--- messages that its reader gave of them, the most bytes of a clipboard, and how many screens there are
+-- what is told beside the machine's connections: the entries that were routed, the bytes that came
+-- from each and the messages that its reader gave of them, the most bytes of a clipboard, and how
+-- many screens there are
 pub record Surroundings : Type 0 where
   pub routed : List Entry
   pub received : ℕ → List ℕ
@@ -46,7 +47,8 @@ pub record StandsFor (a : Surroundings) (k : kept.Connection) (c : Connection) :
   pub holds : is_live c ≡ true → c.is_dropped ≡ false
 
 -- one by one, with serials that rise above that one
-abbrev pub Pairs : (kept.Connection → Connection → Type 0) → ℕ → List kept.Connection → List Connection → Type 0
+abbrev pub Pairs : (kept.Connection → Connection → Type 0) → ℕ → List kept.Connection
+    → List Connection → Type 0
 Pairs R low [] [] = Unit {0}
 Pairs R low [] (c ∷ cs) = ⊥
 Pairs R low (k ∷ ks) [] = ⊥

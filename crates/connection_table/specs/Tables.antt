@@ -21,5 +21,6 @@ abbrev pub is_too_slow : Connection → Bool
 is_too_slow c = not (is_parting (phase_of c.phase)) && c.queue.is_slow
 
 -- the connection of that serial changes as the relation says, and no other one does
-abbrev pub ChangesAt : ℕ → (Connection → Connection → Type 0) → List Connection → List Connection → Type 0
+abbrev pub ChangesAt : ℕ → (Connection → Connection → Type 0) → List Connection → List Connection
+    → Type 0
 ChangesAt serial R old new = FirstChanges (is_of serial) R old new

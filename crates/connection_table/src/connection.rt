@@ -1,6 +1,19 @@
 //! One connection.
 
-ghost use Rattle.std.specs.Prelude.{◌≡◌, ◌≤◌, ◌<◌, ◌+◌, ◌^◌, [], None, length, not, IfOk, OnOk, OnErr};
+ghost use Rattle.std.specs.Prelude.{
+  ◌≡◌,
+  ◌≤◌,
+  ◌<◌,
+  ◌+◌,
+  ◌^◌,
+  [],
+  None,
+  length,
+  not,
+  IfOk,
+  OnOk,
+  OnErr,
+};
 ghost use Rattle.message_codec.specs.Spelling.{body_of};
 ghost use Rattle.wire_frames.specs.declared.limits.TheConstants.{BODY_LIMIT};
 ghost use Rattle.share_base.specs.Shapes.{IsScreenShape};
@@ -24,8 +37,8 @@ use share_base::{ClipId, Octets, OutOfMemory, ScreenNo, Shape};
 use std::alloc::Global;
 use std::mem;
 
-/// What a server keeps of one connection: how far it has come, the reader of its bytes, what it has sent
-/// of each clipboard, and what is queued for it.
+/// What a server keeps of one connection: how far it has come, the reader of its bytes, what it has
+/// sent of each clipboard, and what is queued for it.
 #[derive(Drop)]
 pub struct Connection {
     pub(crate) serial: u64,
@@ -122,8 +135,8 @@ impl Connection {
         Ok(())
     }
 
-    // Parts the connection for that cause at that moment; where the cause says so, what is queued is
-    // dropped. One that is parting already keeps its cause and its moment.
+    // Parts the connection for that cause at that moment; where the cause says so, what is queued
+    // is dropped. One that is parting already keeps its cause and its moment.
     pub(crate) fn part(&mut self, cause: PartCause, now: u64)
         ensures { Parts cause now self.old self.new }
     {
@@ -189,7 +202,8 @@ impl Connection {
         mark: ClipMark,
         bytes: &[u8],
     ) -> Result<Option<Octets>, OutOfMemory>
-        ensures ok { IfOk result (λ whole. TakesPart clip seq mark bytes.now whole self.old self.new) }
+        ensures ok { IfOk result
+            (λ whole. TakesPart clip seq mark bytes.now whole self.old self.new) }
         ensures err { OnErr result (self.new ≡ self.old) }
     {
         match clip {
@@ -211,7 +225,8 @@ impl Connection {
         self.queue.discard();
     }
 
-    // Notes that the first `count` of the untaken bytes were taken. Fewer than 2^63 are taken in all.
+    // Notes that the first `count` of the untaken bytes were taken. Fewer than 2^63 are taken in
+    // all.
     pub(crate) fn take(&mut self, count: usize)
         requires there { count ≤ length self.old.queue.untaken }
         requires fits { self.old.queue.taken + count < 2 ^ 63 }

@@ -33,8 +33,8 @@ impl Phase {
         !matches!(self, Phase::Parting(_))
     }
 
-    /// Returns the screen that the connection keeps others from taking, a number below 64: that of an
-    /// asked or a joined one.
+    /// Returns the screen that the connection keeps others from taking, a number below 64: that of
+    /// an asked or a joined one.
     pub fn used_screen(&self) -> Option<ScreenNo>
         ensures screen { option_map (λ n. n.0) result ≡ used_screen (phase_of self.now) }
         ensures bound { IfSome result (λ n. n.0 < MOST_SCREENS) }
@@ -68,7 +68,8 @@ impl Phase {
         }
     }
 
-    /// Parts the connection for that cause at that moment. One that is parting already stays as it is.
+    /// Parts the connection for that cause at that moment. One that is parting already stays as it
+    /// is.
     pub(crate) fn part(self, cause: PartCause, now: u64) -> Phase
         ensures { phase_of result ≡ parted_phase cause now (phase_of self) }
     {
@@ -104,7 +105,8 @@ impl Phase {
         }
     }
 
-    /// Admits the connection as that screen, if it is to answer. Its keep-alive will have that rate.
+    /// Admits the connection as that screen, if it is to answer. Its keep-alive will have that
+    /// rate.
     pub(crate) fn admitted(self, screen: ScreenNo, rate: u32) -> Phase
         requires { screen.0 < MOST_SCREENS }
         ensures { phase_of result ≡ admitted_as screen.0 rate (phase_of self) }

@@ -30,8 +30,8 @@ impl Reading {
     }
 }
 
-// Feeds a reader the next piece of its stream, which has fewer than 2^63 bytes in all, and asks it until
-// no message is left.
+// Feeds a reader the next piece of its stream, which has fewer than 2^63 bytes in all, and asks it
+// until no message is left.
 pub(crate) fn read_piece(
     alloc: Global,
     reader: &mut MessageReader,

@@ -1,6 +1,23 @@
 //! All connections.
 
-ghost use Rattle.std.specs.Prelude.{◌≡◌, ◌≤◌, ◌<◌, ◌+◌, ◌^◌, ◌++◌, ◌∷◌, [], Some, length, IfSome, IfOk, OnOk, OnErr, None, false};
+ghost use Rattle.std.specs.Prelude.{
+  ◌≡◌,
+  ◌≤◌,
+  ◌<◌,
+  ◌+◌,
+  ◌^◌,
+  ◌++◌,
+  ◌∷◌,
+  [],
+  Some,
+  length,
+  IfSome,
+  IfOk,
+  OnOk,
+  OnErr,
+  None,
+  false,
+};
 ghost use Rattle.std.specs.Option.{option_copied, option_map_or};
 ghost use Rattle.std.specs.List.{find, position};
 ghost use Rattle.share_base.specs.Shapes.{IsScreenShape};
@@ -76,7 +93,8 @@ impl Table {
 
     /// Tells whether a frame for the connection of that serial was left out of its queue.
     pub fn is_slow(&self, serial: u64) -> bool
-        ensures { result ≡ option_map_or (λ c. c.queue.is_slow) (find (is_of serial) self.now) false }
+        ensures { result ≡ option_map_or (λ c. c.queue.is_slow) (find (is_of serial) self.now)
+            false }
     {
         match self.get(serial) {
             Some(connection) => connection.queue.is_slow(),
@@ -84,8 +102,8 @@ impl Table {
         }
     }
 
-    /// Does nothing. Its contract says that fewer than 2^63 bytes are taken, whatever is taken of those
-    /// that are queued for the connection of that serial.
+    /// Does nothing. Its contract says that fewer than 2^63 bytes are taken, whatever is taken of
+    /// those that are queued for the connection of that serial.
     pub fn assure_room(&self, serial: u64)
         ensures { IfSome (find (is_of serial) self.now)
             (λ c. c.queue.taken + length c.queue.untaken < 2 ^ 63) }
@@ -103,7 +121,8 @@ impl Table {
         self.connections.iter().position(|c| c.serial == serial)
     }
 
-    /// Adds a connection, whose serial is greater than all others. On `OutOfMemory` nothing changes.
+    /// Adds a connection, whose serial is greater than all others. On `OutOfMemory` nothing
+    /// changes.
     pub fn add(&mut self, connection: Connection) -> Result<(), OutOfMemory>
         ensures ok { OnOk result (self.new ≡ self.old ++ connection ∷ []) }
         ensures err { OnErr result (self.new ≡ self.old) }
@@ -119,9 +138,9 @@ impl Table {
         self.connections.retain(|c| c.serial != serial);
     }
 
-    /// Reads the next piece of the bytes of the connection of that serial, which are fewer than 2^63 in
-    /// all, and returns what it brings. Of another serial nothing is read. After `OutOfMemory` some of
-    /// the piece may be read.
+    /// Reads the next piece of the bytes of the connection of that serial, which are fewer than
+    /// 2^63 in all, and returns what it brings. Of another serial nothing is read. After
+    /// `OutOfMemory` some of the piece may be read.
     pub fn read(&mut self, alloc: Global, serial: u64, piece: &[u8]) -> Result<Reading, OutOfMemory>
         requires { IfSome (find (is_of serial) self.old)
             (λ c. c.reader.total + length piece.now < 2 ^ 63) }
@@ -148,8 +167,8 @@ impl Table {
         Ok(())
     }
 
-    /// Parts the connection of that serial for that cause at that moment, in milliseconds; where the
-    /// cause says so, what is queued is dropped. One that is parting already keeps its cause.
+    /// Parts the connection of that serial for that cause at that moment, in milliseconds; where
+    /// the cause says so, what is queued is dropped. One that is parting already keeps its cause.
     pub fn part(&mut self, serial: u64, cause: PartCause, now: u64)
         ensures { ChangesAt serial (Parts cause now) self.old self.new }
     {
@@ -158,8 +177,8 @@ impl Table {
         }
     }
 
-    /// Counts a beat as sent to the connection of that serial at that moment, in milliseconds, if it is
-    /// joined and a beat is due.
+    /// Counts a beat as sent to the connection of that serial at that moment, in milliseconds, if
+    /// it is joined and a beat is due.
     pub fn beat(&mut self, serial: u64, now: u64)
         ensures { ChangesAt serial (Advances (λ p. after_beat_in p now)) self.old self.new }
     {
@@ -178,8 +197,8 @@ impl Table {
         }
     }
 
-    /// Admits the connection of that serial as a screen, if it is to answer. Its keep-alive will have that
-    /// rate, in milliseconds.
+    /// Admits the connection of that serial as a screen, if it is to answer. Its keep-alive will
+    /// have that rate, in milliseconds.
     pub fn admit(&mut self, serial: u64, screen: ScreenNo, rate: u32)
         requires { screen.0 < MOST_SCREENS }
         ensures { ChangesAt serial (Advances (admitted_as screen.0 rate)) self.old self.new }
@@ -189,8 +208,8 @@ impl Table {
         }
     }
 
-    /// Joins the connection of that serial with that shape at that moment, in milliseconds, if its shape
-    /// was asked.
+    /// Joins the connection of that serial with that shape at that moment, in milliseconds, if its
+    /// shape was asked.
     pub fn join(&mut self, serial: u64, shape: Shape, now: u64)
         requires { IsScreenShape shape }
         ensures { ChangesAt serial (Advances (joined_with shape now)) self.old self.new }
@@ -200,8 +219,8 @@ impl Table {
         }
     }
 
-    /// Gives the screen of the connection of that serial another shape at that moment, in milliseconds, if
-    /// it is joined.
+    /// Gives the screen of the connection of that serial another shape at that moment, in
+    /// milliseconds, if it is joined.
     pub fn reshape(&mut self, serial: u64, shape: Shape, now: u64)
         requires { IsScreenShape shape }
         ensures { ChangesAt serial (Advances (reshaped_to shape now)) self.old self.new }
@@ -211,8 +230,8 @@ impl Table {
         }
     }
 
-    /// Takes a part of a clipboard from the connection of that serial, and returns the bytes of the whole
-    /// clipboard that it ends, if it does. On `OutOfMemory` nothing changes.
+    /// Takes a part of a clipboard from the connection of that serial, and returns the bytes of the
+    /// whole clipboard that it ends, if it does. On `OutOfMemory` nothing changes.
     pub fn take_part(
         &mut self,
         serial: u64,
@@ -221,7 +240,8 @@ impl Table {
         mark: ClipMark,
         bytes: &[u8],
     ) -> Result<Option<Octets>, OutOfMemory>
-        ensures ok { IfOk result (λ whole. ChangesAt serial (TakesPart clip seq mark bytes.now whole)
+        ensures ok { IfOk result
+            (λ whole. ChangesAt serial (TakesPart clip seq mark bytes.now whole)
             self.old self.new) }
         ensures err { OnErr result (self.new ≡ self.old) }
     {
@@ -241,11 +261,13 @@ impl Table {
         }
     }
 
-    /// Notes that the connection of that serial took the first `count` of its untaken bytes. Fewer than
-    /// 2^63 are taken in all.
+    /// Notes that the connection of that serial took the first `count` of its untaken bytes. Fewer
+    /// than 2^63 are taken in all.
     pub fn take(&mut self, serial: u64, count: usize)
-        requires there { IfSome (find (is_of serial) self.old) (λ c. count ≤ length c.queue.untaken) }
-        requires fits { IfSome (find (is_of serial) self.old) (λ c. c.queue.taken + count < 2 ^ 63) }
+        requires there { IfSome (find (is_of serial) self.old)
+            (λ c. count ≤ length c.queue.untaken) }
+        requires fits { IfSome (find (is_of serial) self.old)
+            (λ c. c.queue.taken + count < 2 ^ 63) }
         ensures { ChangesAt serial (Takes count) self.old self.new }
     {
         if let Some(place) = self.place_of(serial) {

@@ -3,7 +3,8 @@ use hello_states::PartCause;
 use message_codec::Msg;
 use std::test::*;
 
-/// A frame is queued for the connection of a serial, and no other; a parting for want of speed drops it.
+/// A frame is queued for the connection of a serial, and no other; a parting for want of speed
+/// drops it.
 #[test]
 fn a_connection_is_found_by_its_serial(rt: HostRuntime) -> Result<(), Fail> {
     let mut table = Table::new(rt.alloc());

@@ -28,8 +28,11 @@ EndsBy ends.TurnsSpent turns run j = (waits_in run ≡ turns) × (j.place ≡ Wa
 EndsBy ends.WriteFault turns run j = Unit {0}
 EndsBy ends.OutOfMemory turns run j = Unit {0}
 
--- after the turns, which came to that end, the connections leave; those of the rest are still to be closed
-pub record Departing {E H : Type 0} (departs : E → List ℕ → State → Type 0) (state : H → HubState) (leads : H → H → Type 0) (r : Course H) (end : ServeEnd) (turns : ℕ) (core : E) (hub : H) (rest : List ℕ) : Type 0 where
+-- after the turns, which came to that end, the connections leave; those of the rest are still to be
+-- closed
+pub record Departing {E H : Type 0} (departs : E → List ℕ → State → Type 0) (state : H → HubState)
+    (leads : H → H → Type 0) (r : Course H) (end : ServeEnd) (turns : ℕ) (core : E) (hub : H)
+    (rest : List ℕ) : Type 0 where
   pub run : List Act
   pub judge : Judge
   pub leaves : List Act
@@ -48,7 +51,8 @@ pub record Departing {E H : Type 0} (departs : E → List ℕ → State → Type
   pub cause : EndsBy end turns run judge
 
 -- memory ran out as the connections left
-pub record LeftShort {H : Type 0} (state : H → HubState) (leads : H → H → Type 0) (r : Course H) (turns : ℕ) (hub : H) : Type 0 where
+pub record LeftShort {H : Type 0} (state : H → HubState) (leads : H → H → Type 0) (r : Course H)
+    (turns : ℕ) (hub : H) : Type 0 where
   pub run : List Act
   pub judge : Judge
   pub leaves : List Act
@@ -81,6 +85,9 @@ is_failure ends.OutOfMemory = true
 is_failure end = false
 
 -- after as many waits as there were turns, or fewer
-abbrev pub AfterTurns : {E H : Type 0} → (E → List ℕ → State → Type 0) → (H → HubState) → (H → H → Type 0) → Course H → ℕ → ServeEnd → E → H → Watch → SinkState → SinkState → Type 0
-AfterTurns serves state leads r turns ends.TurnsSpent core hub watch old new = Ended serves state leads (record r { waits = turns }) ends.TurnsSpent core hub watch old new
-AfterTurns serves state leads r turns end core hub watch old new = (n : ℕ) × (n ≤ turns) × Ended serves state leads (record r { waits = n }) end core hub watch old new
+abbrev pub AfterTurns : {E H : Type 0} → (E → List ℕ → State → Type 0) → (H → HubState)
+    → (H → H → Type 0) → Course H → ℕ → ServeEnd → E → H → Watch → SinkState → SinkState → Type 0
+AfterTurns serves state leads r turns ends.TurnsSpent core hub watch old new =
+    Ended serves state leads (record r { waits = turns }) ends.TurnsSpent core hub watch old new
+AfterTurns serves state leads r turns end core hub watch old new = (n : ℕ) × (n ≤ turns)
+    × Ended serves state leads (record r { waits = n }) end core hub watch old new

@@ -52,7 +52,9 @@ IsIn departs end core s = (front : List ℕ) × departs core front s
 -- ---- a run
 
 -- the acts of the turns and then those of the closings were due, one after another
-pub record Serves {E H : Type 0} (departs : E → List ℕ → State → Type 0) (state : H → HubState) (leads : H → H → Type 0) (o : Origin) (turns : ℕ) (end : ServeEnd) (core : E) (old new : H) (sink sink' : SinkState) : Type 0 where
+pub record Serves {E H : Type 0} (departs : E → List ℕ → State → Type 0) (state : H → HubState)
+    (leads : H → H → Type 0) (o : Origin) (turns : ℕ) (end : ServeEnd) (core : E) (old new : H)
+    (sink sink' : SinkState) : Type 0 where
   pub run : List Act
   pub leaves : List Act
   pub judge : Judge

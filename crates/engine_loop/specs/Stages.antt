@@ -40,7 +40,8 @@ pub record Made (first : Judge) (old new : HubState) (acts : List Act) (last : J
 
 -- ---- a run
 
--- what it began with, the text of the log that was cleared, how many waits were made, and whether the latest one failed
+-- what it began with, the text of the log that was cleared, how many waits were made, and whether
+-- the latest one failed
 pub record Course (H : Type 0) : Type 0 where
   pub origin : Origin
   pub hub : H
@@ -51,8 +52,11 @@ pub record Course (H : Type 0) : Type 0 where
 abbrev pub first_of : {H : Type 0} → Course H → Judge
 first_of r = first_judge (start_of r.origin)
 
--- the acts were due, and the engine, the hub and what is watched are where they lead. There P holds of them
-pub record Stage {E H : Type 0} (serves : E → List ℕ → State → Type 0) (state : H → HubState) (leads : H → H → Type 0) (r : Course H) (core : E) (hub : H) (watch : Watch) (P : List Act → Judge → Type 0) : Type 0 where
+-- the acts were due, and the engine, the hub and what is watched are where they lead. There P holds
+-- of them
+pub record Stage {E H : Type 0} (serves : E → List ℕ → State → Type 0) (state : H → HubState)
+    (leads : H → H → Type 0) (r : Course H) (core : E) (hub : H) (watch : Watch)
+    (P : List Act → Judge → Type 0) : Type 0 where
   pub acts : List Act
   pub judge : Judge
   pub made : Made (first_of r) (state r.hub) (state hub) acts judge
@@ -69,7 +73,8 @@ pub record Stage {E H : Type 0} (serves : E → List ℕ → State → Type 0) (
   pub there : P acts judge
 
 -- memory ran out after acts that were due
-pub record Cut {H : Type 0} (state : H → HubState) (leads : H → H → Type 0) (r : Course H) (hub : H) : Type 0 where
+pub record Cut {H : Type 0} (state : H → HubState) (leads : H → H → Type 0) (r : Course H) (hub : H)
+    : Type 0 where
   pub acts : List Act
   pub judge : Judge
   pub made : Made (first_of r) (state r.hub) (state hub) acts judge
@@ -93,15 +98,19 @@ abbrev pub IsToClose : ℕ → List Act → Judge → Type 0
 IsToClose serial acts j = (j.place ≡ at_closes j.state) × (closing j.state ≡ Some serial)
 
 -- on some course it is there
-abbrev pub IsSomewhere : {E H : Type 0} → (E → List ℕ → State → Type 0) → (H → HubState) → (H → H → Type 0) → E → H → Watch → (List Act → Judge → Type 0) → Type 0
-IsSomewhere {H = H} serves state leads core hub watch P = (r : Course H) × Stage serves state leads r core hub watch P
+abbrev pub IsSomewhere : {E H : Type 0} → (E → List ℕ → State → Type 0) → (H → HubState)
+    → (H → H → Type 0) → E → H → Watch → (List Act → Judge → Type 0) → Type 0
+IsSomewhere {H = H} serves state leads core hub watch P =
+    (r : Course H) × Stage serves state leads r core hub watch P
 
 abbrev pub After : Result (Unit {0}) OutOfMemory → Type 0 → Type 0 → Type 0
 After (Ok done) stage cut = stage
 After (Err e) stage cut = cut
 
 -- from the one stage to the other, on every course
-abbrev pub Passes : {E H : Type 0} → (E → List ℕ → State → Type 0) → (H → HubState) → (H → H → Type 0) → Result (Unit {0}) OutOfMemory → E → E → H → H → Watch → Watch → (List Act → Judge → Type 0) → (List Act → Judge → Type 0) → Type 0
+abbrev pub Passes : {E H : Type 0} → (E → List ℕ → State → Type 0) → (H → HubState)
+    → (H → H → Type 0) → Result (Unit {0}) OutOfMemory → E → E → H → H → Watch → Watch
+    → (List Act → Judge → Type 0) → (List Act → Judge → Type 0) → Type 0
 Passes {H = H} serves state leads result core core' hub hub' watch watch' P Q =
     (r : Course H) → Stage serves state leads r core hub watch P
     → After result (Stage serves state leads r core' hub' watch' Q) (Cut state leads r hub')
@@ -109,10 +118,13 @@ Passes {H = H} serves state leads result core core' hub hub' watch watch' P Q =
 -- ---- what is read off
 
 -- the answer is what the definition gives of the flags and the state
-abbrev pub Answers : {E A : Type 0} → (E → List ℕ → State → Type 0) → E → Watch → A → (Flags → State → A) → Type 0
+abbrev pub Answers : {E A : Type 0} → (E → List ℕ → State → Type 0) → E → Watch → A
+    → (Flags → State → A) → Type 0
 Answers serves core watch answer f =
-    (o : Origin) (latest : ℕ) (front : List ℕ) (s : State) → Reached o latest s → serves core front s → serials_in watch ≡ serials s.connections
+    (o : Origin) (latest : ℕ) (front : List ℕ) (s : State) → Reached o latest s
+    → serves core front s → serials_in watch ≡ serials s.connections
     → answer ≡ f (flags_of (total s.routed) watch) s
 
 abbrev pub HasMore : {E : Type 0} → (E → List ℕ → State → Type 0) → E → ℕ → Bool → Type 0
-HasMore serves core serial answer = (o : Origin) (latest : ℕ) (front : List ℕ) (s : State) → Reached o latest s → serves core front s → answer ≡ has_more s serial
+HasMore serves core serial answer = (o : Origin) (latest : ℕ) (front : List ℕ) (s : State)
+    → Reached o latest s → serves core front s → answer ≡ has_more s serial

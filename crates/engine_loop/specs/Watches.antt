@@ -9,7 +9,12 @@ use Rattle.engine_loop.specs.declared.watch.Watch.{Watch}
 -- ---- as flags, where so many bytes were queued in all, by serial
 
 abbrev pub flag_of : (ℕ → ℕ) → Stream → Flag
-flag_of totals t = record { serial = t.serial; reads = t.reads; writes = t.writes || nat_lt t.seen (totals t.serial) }
+flag_of totals t =
+    record {
+      serial = t.serial;
+      reads = t.reads;
+      writes = t.writes || nat_lt t.seen (totals t.serial);
+    }
 
 abbrev pub flags_of : (ℕ → ℕ) → Watch → Flags
 flags_of totals w = record { listens = w.listens; streams = map (flag_of totals) w.streams.items }
@@ -24,7 +29,8 @@ serials_in w = map serial_of w.streams.items
 -- ---- changes
 
 abbrev pub changed : Change → Stream → Stream
-changed (Marked readable writable) t = record t { reads = t.reads || readable; writes = t.writes || writable }
+changed (Marked readable writable) t =
+    record t { reads = t.reads || readable; writes = t.writes || writable }
 changed ReadsDrained t = record t { reads = false }
 changed (WritesDrained seen) t = record t { writes = false; seen = seen }
 

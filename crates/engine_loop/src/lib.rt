@@ -1,9 +1,9 @@
 //! The loop of the server: it waits on a hub, tells an engine what happens, writes to the
 //! connections what the engine has queued for them, and writes the engine's log to a sink.
 //!
-//! It owns the loop, how far a run has come (`specs/Stages.antt`) and what a run makes of its engine, its
-//! hub and its sink (`specs/Serving.antt`). It may know hubs, sinks, engines and which act is due, by the
-//! machine's definitions: no frame, no message, and not how an engine works.
+//! It owns the loop, how far a run has come (`specs/Stages.antt`) and what a run makes of its
+//! engine, its hub and its sink (`specs/Serving.antt`). It may know hubs, sinks, engines and which
+//! act is due, by the machine's definitions: no frame, no message, and not how an engine works.
 #![tactic(auto)]
 
 mod accepting;

@@ -24,7 +24,8 @@ use share_base::{OutOfMemory, Sink, write_all};
 pub(crate) fn write_log<E: Engine, K: Sink>(core: &mut E, out: &mut K) -> Result<(), ServeEnd>
     ensures fault { EndsAtFailure result }
     ensures serves { LogsOn E.serves result core.old core.new (K.state out.old) (K.state out.new) }
-    ensures departs { LogsOn E.departs result core.old core.new (K.state out.old) (K.state out.new) }
+    ensures departs { LogsOn E.departs result core.old core.new (K.state out.old)
+        (K.state out.new) }
 {
     if !write_all(out, core.log()) {
         return Err(ServeEnd::WriteFault);
@@ -40,7 +41,8 @@ fn end_step<E: Engine, K: Sink>(
     out: &mut K,
 ) -> Result<(), ServeEnd>
     ensures fault { EndsAtFailure result }
-    ensures heeds { Heeds E.serves done result core.old core.new (K.state out.old) (K.state out.new) }
+    ensures heeds { Heeds E.serves done result core.old core.new (K.state out.old)
+        (K.state out.new) }
 {
     match done {
         Ok(()) => write_log(core, out),

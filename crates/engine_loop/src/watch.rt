@@ -113,7 +113,8 @@ impl Watch {
 
     /// Changes what is known of the connection with that serial, if it is open.
     pub(crate) fn change(&mut self, serial: u64, change: Change)
-        ensures streams { self.new.streams.items ≡ changed_all serial change self.old.streams.items }
+        ensures streams { self.new.streams.items
+            ≡ changed_all serial change self.old.streams.items }
         ensures listens { self.new.listens ≡ self.old.listens }
     {
         for stream in self.streams.iter_mut() {

@@ -13,7 +13,8 @@ use Rattle.hub_acts.specs.declared.marks.Mark.{Mark}
 use Rattle.hub_acts.specs.Acts.{known_after}
 use Rattle.hub_acts.specs.Counting.{Counts, counts_in, is_fault, is_break, latest_with, open_with}
 
--- the latest serial, 0 before the first; the open serials; the acts, where they are known; and two counts
+-- the latest serial, 0 before the first; the open serials; the acts, where they are known; and two
+-- counts
 pub record HubState : Type 0 where
   pub latest : ℕ
   pub open_now : List ℕ

@@ -10,25 +10,28 @@ use share_base::OutOfMemory;
 
 /// One connection that this end makes, and the clock.
 ///
-/// Every link tells its two counts, and a link in memory all acts. `connect` and `wait` raise the count
-/// of faults alone, and `read` and `write` that of breaks. A call that answers `OutOfMemory` is no act
-/// and changes nothing.
+/// Every link tells its two counts, and a link in memory all acts. `connect` and `wait` raise the
+/// count of faults alone, and `read` and `write` that of breaks. A call that answers `OutOfMemory`
+/// is no act and changes nothing.
 pub trait Link {
     /// What it tells.
     ghost state: { Self → LinkState };
 
-    /// Calls led from the one to the other. A link in memory says by it that its trace answered them.
+    /// Calls led from the one to the other. A link in memory says by it that its trace answered
+    /// them.
     ghost leads: { Self → Self → Type 0 };
 
     /// No call was made.
     ghost stays: { (link : Self) → leads link link };
 
     /// Calls were made after others.
-    ghost goes_on: { (old middle new : Self) → leads old middle → leads middle new → leads old new };
+    ghost goes_on: { (old middle new : Self) → leads old middle → leads middle new
+        → leads old new };
 
     /// Connects to a port of a host.
     fn connect(&mut self, host: &str, port: u16) -> Result<(), CallFault>
-        ensures calls { LinkCalls (connect_act host.now port result) (state self.old) (state self.new) }
+        ensures calls { LinkCalls (connect_act host.now port result) (state self.old)
+            (state self.new) }
         ensures leads { leads self.old self.new };
 
     /// Waits at most that many milliseconds until the stream is ready.
@@ -53,7 +56,8 @@ pub trait Link {
     fn write(&mut self, bytes: &[u8]) -> WriteAnswer
         requires { 0 < length bytes.now }
         ensures fits { FitsWrite result (length bytes.now) }
-        ensures calls { LinkCalls (link_write_act bytes.now result) (state self.old) (state self.new) }
+        ensures calls { LinkCalls (link_write_act bytes.now result) (state self.old)
+            (state self.new) }
         ensures leads { leads self.old self.new };
 
     /// Closes the stream.

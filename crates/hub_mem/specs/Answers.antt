@@ -38,7 +38,14 @@ tally p = tally_of p.acts
 
 -- all is known of it
 abbrev pub hub_state : Played → HubState
-hub_state p = record { latest = (tally p).latest; open_now = (tally p).serials; acts = Some p.acts; faults = (tally p).faults; breaks = (tally p).breaks }
+hub_state p =
+    record {
+      latest = (tally p).latest;
+      open_now = (tally p).serials;
+      acts = Some p.acts;
+      faults = (tally p).faults;
+      breaks = (tally p).breaks;
+    }
 
 -- the next numbered call is to fail
 abbrev pub is_to_fail : Played → Bool
@@ -62,10 +69,12 @@ accept_mark true = mark.Accept ∷ []
 accept_mark false = []
 
 abbrev pub stream_mark : ℕ → Bool → Bool → List Mark
-stream_mark c readable writable = if readable || writable then mark.Stream c readable writable ∷ [] else []
+stream_mark c readable writable =
+    if readable || writable then mark.Stream c readable writable ∷ [] else []
 
 abbrev pub marks_for : List TraceLine → ℕ → List Mark
-marks_for turn c = stream_mark c (list_any (makes_readable c) turn) (list_any (makes_writable c) turn)
+marks_for turn c =
+    stream_mark c (list_any (makes_readable c) turn) (list_any (makes_writable c) turn)
 
 -- where a connection joined; and then for each open connection that the turn has a line for
 abbrev pub marks_of : List TraceLine → List ℕ → List Mark
@@ -85,17 +94,20 @@ turn_wait p ms [] = act.Wait ms waited.Over []
 turn_wait p ms (l ∷ ls) = act.Wait ms waited.Ready (marks_of (next_turn (l ∷ ls)) (tally p).serials)
 
 abbrev pub trace_wait : Played → ℕ → Act
-trace_wait p ms = if is_to_fail p then act.Wait ms waited.Failed [] else turn_wait p ms (story p).ahead
+trace_wait p ms =
+    if is_to_fail p then act.Wait ms waited.Failed [] else turn_wait p ms (story p).ahead
 
 abbrev pub trace_now : Played → Act
 trace_now p = act.Now (clock_in (story p).scenes)
 
 -- connections are accepted in the order in which they joined
 abbrev pub accept_answer : ℕ → ℕ → AcceptAnswer
-accept_answer latest joined = if nat_lt latest joined then accepted.New (latest + 1) else accepted.NotNow
+accept_answer latest joined =
+    if nat_lt latest joined then accepted.New (latest + 1) else accepted.NotNow
 
 abbrev pub accept_given : Played → AcceptAnswer
-accept_given p = if is_to_fail p then accepted.Failed else accept_answer (tally p).latest (joined_in (story p).scenes)
+accept_given p = if is_to_fail p then accepted.Failed
+    else accept_answer (tally p).latest (joined_in (story p).scenes)
 
 abbrev pub trace_accept : Played → Act
 trace_accept p = act.Accept (accept_given p)
@@ -114,7 +126,9 @@ abbrev pub end_given : Played → ℕ → Option ReadAnswer
 end_given p serial = if is_to_fail p then Some read.Failed else end_if_read (stream_of p serial)
 
 abbrev pub front_read : ℕ → ℕ → Stream → Act
-front_read serial room s = act.Read serial room (read.Got (min room (length s.unread))) (take (min room (length s.unread)) s.unread)
+front_read serial room s =
+    act.Read serial room (read.Got (min room (length s.unread)))
+    (take (min room (length s.unread)) s.unread)
 
 abbrev pub read_of : ℕ → ℕ → Option ReadAnswer → Stream → Act
 read_of serial room (Some answer) s = act.Read serial room answer []
@@ -126,13 +140,15 @@ trace_read p serial room = read_of serial room (end_given p serial) (stream_of p
 -- the whole piece is taken, or as much of it as there is room
 abbrev pub room_answer : ℕ → Option ℕ → WriteAnswer
 room_answer offered None = written.Took offered
-room_answer offered (Some room) = if room == 0 then written.NotNow else written.Took (min room offered)
+room_answer offered (Some room) =
+    if room == 0 then written.NotNow else written.Took (min room offered)
 
 abbrev pub write_answer : ℕ → Stream → WriteAnswer
 write_answer offered s = if s.has_failed then written.Failed else room_answer offered s.room
 
 abbrev pub write_given : Played → ℕ → ℕ → WriteAnswer
-write_given p serial offered = if is_to_fail p then written.Failed else write_answer offered (stream_of p serial)
+write_given p serial offered =
+    if is_to_fail p then written.Failed else write_answer offered (stream_of p serial)
 
 abbrev pub trace_write : Played → ℕ → List ℕ → Act
 trace_write p serial bytes = act.Write serial bytes (write_given p serial (length bytes))
@@ -142,7 +158,8 @@ trace_close serial = act.Close serial
 
 -- ---- calls
 
--- a call that made an act made the one that was expected, and the act is added; one that made none changed nothing
+-- a call that made an act made the one that was expected, and the act is added; one that made none
+-- changed nothing
 pub record Plays (expected : Act) (made : Option Act) (old new : Played) : Type 0 where
   pub answers : IfSome made (λ a. a ≡ expected)
   pub after : new ≡ record old { acts = add_act made old.acts }

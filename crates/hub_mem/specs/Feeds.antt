@@ -24,13 +24,18 @@ coming_in has_line lines = flat_map (λ l. if has_line l then bytes_of l else []
 
 -- where a story leaves it
 abbrev pub feed_in : Role → Story → Feed
-feed_in role s = record { stream = stream_in role s.scenes; coming = coming_in role.has_line s.ahead }
+feed_in role s =
+    record { stream = stream_in role s.scenes; coming = coming_in role.has_line s.ahead }
 
 abbrev pub with_coming : List ℕ → Feed → Feed
 with_coming bytes f = record f { coming = f.coming ++ bytes }
 
 abbrev pub with_arrived : ℕ → Feed → Feed
-with_arrived n f = record { stream = record f.stream { unread = f.stream.unread ++ take n f.coming }; coming = drop n f.coming }
+with_arrived n f =
+    record {
+      stream = record f.stream { unread = f.stream.unread ++ take n f.coming };
+      coming = drop n f.coming;
+    }
 
 abbrev pub feed_heard : TraceLine → Feed → Feed
 feed_heard (line.Got c bytes) f = with_arrived (length bytes) f

@@ -35,21 +35,29 @@ pub record PlaysOn (old new : Played) : Type 0 where
   pub given : AreGiven old made
 
 pub plays_stay : (p : Played) → PlaysOn p p
-plays_stay p = record { lines = refl; failing = refl; made = []; acts = sym (append-nil p.acts); given = tt }
+plays_stay p =
+    record { lines = refl; failing = refl; made = []; acts = sym (append-nil p.acts); given = tt }
 
 abbrev played : List TraceLine → List ℕ → List Act → Played
 played lines failing acts = record { lines = lines; failing = failing; acts = acts }
 
-same_given : (p q : Played) (acts made : List Act) → q.lines ≡ p.lines → q.failing ≡ p.failing → q.acts ≡ acts → AreGiven q made → AreGiven (played p.lines p.failing acts) made
+same_given : (p q : Played) (acts made : List Act) → q.lines ≡ p.lines → q.failing ≡ p.failing
+    → q.acts ≡ acts → AreGiven q made → AreGiven (played p.lines p.failing acts) made
 same_given p q acts made lines failing same g =
     subst (λ (xs : List Act). AreGiven (played p.lines p.failing xs) made) same
     (subst (λ (ns : List ℕ). AreGiven (played p.lines ns q.acts) made) failing
     (subst (λ (ls : List TraceLine). AreGiven (played ls q.failing q.acts) made) lines g))
 
-more_given : (p : Played) (first second : List Act) → AreGiven p first → AreGiven (record p { acts = p.acts ++ first }) second → AreGiven p (first ++ second)
-more_given p [] second g h = subst (λ (xs : List Act). AreGiven (record p { acts = xs }) second) (append-nil p.acts) h
-more_given p (a ∷ first) second g h =
-    (g.0, more_given (with_act a p) first second g.1 (subst (λ (xs : List Act). AreGiven (record p { acts = xs }) second) (sym (append_assoc p.acts (a ∷ []) first)) h))
+more_given : (p : Played) (first second : List Act) → AreGiven p first
+    → AreGiven (record p { acts = p.acts ++ first }) second → AreGiven p (first ++ second)
+more_given p [] second g h =
+    subst (λ (xs : List Act). AreGiven (record p { acts = xs }) second) (append-nil p.acts) h
+more_given p (a ∷ first) second g h = (
+  g.0,
+  more_given (with_act a p) first second g.1
+      (subst (λ (xs : List Act). AreGiven (record p { acts = xs }) second)
+      (sym (append_assoc p.acts (a ∷ []) first)) h),
+)
 
 pub plays_go_on : (p q r : Played) → PlaysOn p q → PlaysOn q r → PlaysOn p r
 plays_go_on p q r h k = record {
@@ -57,5 +65,6 @@ plays_go_on p q r h k = record {
   failing = k.failing ∙ h.failing;
   made = h.made ++ k.made;
   acts = k.acts ∙ ap (λ (xs : List Act). xs ++ k.made) h.acts ∙ append_assoc p.acts h.made k.made;
-  given = more_given p h.made k.made h.given (same_given p q (p.acts ++ h.made) k.made h.lines h.failing h.acts k.given);
+  given = more_given p h.made k.made h.given
+      (same_given p q (p.acts ++ h.made) k.made h.lines h.failing h.acts k.given);
 }

@@ -34,21 +34,25 @@ feed_after_all has_line lines f = fold (feed_after has_line) f lines
 
 -- the table heard these lines
 pub record Hears (lines : List TraceLine) (old new : Table) : Type 0 where
-  pub feeds : (c : ℕ) → slice_get new.feeds c ≡ option_map (feed_after_all (names c) lines) (slice_get old.feeds c)
+  pub feeds : (c : ℕ)
+      → slice_get new.feeds c ≡ option_map (feed_after_all (names c) lines) (slice_get old.feeds c)
   pub size : length new.feeds ≡ length old.feeds
   pub joined : new.joined ≡ fold joined_after old.joined (came_all lines)
   pub clock : new.clock ≡ fold clock_after old.clock (came_all lines)
 
 -- one stream heard a line, and nothing else changed
 pub record HearsAt (serial : ℕ) (l : TraceLine) (old new : Table) : Type 0 where
-  pub feeds : (c : ℕ) → slice_get new.feeds c ≡ option_map (feed_seen (λ x. serial == c) l) (slice_get old.feeds c)
+  pub feeds : (c : ℕ)
+      → slice_get new.feeds c ≡ option_map (feed_seen (λ x. serial == c) l) (slice_get old.feeds c)
   pub size : length new.feeds ≡ length old.feeds
   pub joined : new.joined ≡ old.joined
   pub clock : new.clock ≡ old.clock
 
 -- the bytes that these lines have for each stream come later
 pub record AddsComing (lines : List TraceLine) (old new : Table) : Type 0 where
-  pub feeds : (c : ℕ) → slice_get new.feeds c ≡ option_map (with_coming (coming_in (names c) lines)) (slice_get old.feeds c)
+  pub feeds : (c : ℕ)
+      → slice_get new.feeds c ≡ option_map (with_coming (coming_in (names c) lines))
+      (slice_get old.feeds c)
   pub size : length new.feeds ≡ length old.feeds
   pub joined : new.joined ≡ old.joined
   pub clock : new.clock ≡ old.clock
@@ -58,7 +62,8 @@ coming_if b bytes f = if b then with_coming bytes f else f
 
 -- bytes come later to one stream, and nothing else changed
 pub record AddsAt (serial : ℕ) (bytes : List ℕ) (old new : Table) : Type 0 where
-  pub feeds : (c : ℕ) → slice_get new.feeds c ≡ option_map (coming_if (serial == c) bytes) (slice_get old.feeds c)
+  pub feeds : (c : ℕ)
+      → slice_get new.feeds c ≡ option_map (coming_if (serial == c) bytes) (slice_get old.feeds c)
   pub size : length new.feeds ≡ length old.feeds
   pub joined : new.joined ≡ old.joined
   pub clock : new.clock ≡ old.clock
@@ -70,7 +75,8 @@ changed_if b change f = if b then record f { stream = change f.stream } else f
 
 -- the stream of that serial changed, and nothing else
 pub record Changes (serial : ℕ) (change : Stream → Stream) (old new : Table) : Type 0 where
-  pub feeds : (c : ℕ) → slice_get new.feeds c ≡ option_map (changed_if (serial == c) change) (slice_get old.feeds c)
+  pub feeds : (c : ℕ)
+      → slice_get new.feeds c ≡ option_map (changed_if (serial == c) change) (slice_get old.feeds c)
   pub size : length new.feeds ≡ length old.feeds
   pub joined : new.joined ≡ old.joined
   pub clock : new.clock ≡ old.clock

@@ -1,4 +1,5 @@
--- What happens to a hub or a link in memory, in its order: its acts, and the lines of the trace as they come.
+-- What happens to a hub or a link in memory, in its order: its acts, and the lines of the trace as
+-- they come.
 use Rattle.std.specs.Prelude.{ℕ, ◌+◌, Bool, true, false, List, [], ◌∷◌, ◌++◌, map, take, drop}
 use Rattle.std.specs.List.{fold, prefix_len}
 use Rattle.share_base.specs.Counts.{one_more}
@@ -50,7 +51,8 @@ abbrev pub came_all : List TraceLine → List Scene
 came_all lines = map Came lines
 
 abbrev pub story_with : ℕ → Story → Act → Story
-story_with n s a = record { scenes = s.scenes ++ Made a ∷ came_all (take n s.ahead); ahead = drop n s.ahead }
+story_with n s a =
+    record { scenes = s.scenes ++ Made a ∷ came_all (take n s.ahead); ahead = drop n s.ahead }
 
 abbrev pub story_after : Story → Act → Story
 story_after s a = story_with (lines_brought (brings_turn a) s.ahead) s a

@@ -106,8 +106,8 @@ impl Counters {
         Ok(())
     }
 
-    /// Keeps a serial that an accept gave, and lets one go that was closed. On `OutOfMemory` nothing
-    /// changed.
+    /// Keeps a serial that an accept gave, and lets one go that was closed. On `OutOfMemory`
+    /// nothing changed.
     fn keep_serials(&mut self, act: &Act) -> Result<(), OutOfMemory>
         ensures ok { OnOk result (self.new ≡ with_serials act.now self.old) }
         ensures err { OnErr result (self.new ≡ self.old) }
@@ -120,7 +120,7 @@ impl Counters {
                 self.latest = *serial;
             }
             Act::Close { serial } => {
-                self.open.retain(|open| open != serial);
+                self.open.retain(|kept| kept != serial);
             }
             _ => {}
         }

@@ -1,8 +1,8 @@
 //! A hub in memory, which a trace drives.
 //!
-//! It owns what happens to it, in its order (`specs/Stories.antt`, `specs/Streams.antt`), and what each
-//! call answers, as a function of the trace, of the calls that are to fail and of the acts so far
-//! (`specs/Answers.antt`). It may know no frame, no message and no machine.
+//! It owns what happens to it, in its order (`specs/Stories.antt`, `specs/Streams.antt`), and what
+//! each call answers, as a function of the trace, of the calls that are to fail and of the acts so
+//! far (`specs/Answers.antt`). It may know no frame, no message and no machine.
 #![tactic(auto)]
 
 mod counters;

@@ -1,6 +1,20 @@
 //! A hub in memory.
 
-ghost use Rattle.std.specs.Prelude.{◌≡◌, ◌==◌, ◌<◌, ◌≤◌, ◌++◌, ◌∷◌, [], Contains, false, length, IfOk, OnOk, OnErr};
+ghost use Rattle.std.specs.Prelude.{
+  ◌≡◌,
+  ◌==◌,
+  ◌<◌,
+  ◌≤◌,
+  ◌++◌,
+  ◌∷◌,
+  [],
+  Contains,
+  false,
+  length,
+  IfOk,
+  OnOk,
+  OnErr,
+};
 ghost use Rattle.hub_acts.specs.Acts.{listen_act, wait_act, now_act, accept_act, read_act, write_act, close_act};
 ghost use Rattle.hub_acts.specs.Hubs.{HubCalls, FitsWait, FitsAccept, FitsRead, FitsWrite};
 ghost use Rattle.hub_acts.specs.declared.act.Act.TheVariants as act;
@@ -25,9 +39,9 @@ use std::marker::Model;
 /// A hub that a trace drives, with a list of the calls that fail. Its calls of `listen`, `wait`,
 /// `accept`, `read` and `write` are numbered from 1 in the order in which they are made.
 ///
-/// Each wait that does not fail brings the next turn of the trace, whatever its timeout, and after the
-/// last turn it answers `Over`. `now` answers the moment of the latest turn, 0 before the first.
-/// Contracts see the trace, the list and the acts so far, which determine every answer.
+/// Each wait that does not fail brings the next turn of the trace, whatever its timeout, and after
+/// the last turn it answers `Over`. `now` answers the moment of the latest turn, 0 before the
+/// first. Contracts see the trace, the list and the acts so far, which determine every answer.
 #[derive(Drop)]
 pub struct MemoryHub {
     alloc: Global,
@@ -54,7 +68,8 @@ impl Model for MemoryHub {
 impl MemoryHub {
     /// A hub that this trace drives, whose calls of the listed numbers fail.
     pub fn of_trace(alloc: Global, trace: Trace, failing: &[u64]) -> Result<MemoryHub, OutOfMemory>
-        ensures { IfOk result (λ h. h ≡ record { lines = trace; failing = failing.now; acts = [] }) }
+        ensures { IfOk result
+            (λ h. h ≡ record { lines = trace; failing = failing.now; acts = [] }) }
     {
         let failing = Vec::from_slice(alloc, failing)?;
         let playback = Playback::of_trace(alloc, trace)?;
@@ -112,7 +127,8 @@ impl MemoryHub {
         requires going { is_to_fail self.old ≡ false }
         requires more { 0 < length (story self.old).ahead }
         ensures fits { FitsWait result ready.old ready.new }
-        ensures plays { Plays (trace_wait self.old ms) (wait_act ms ready.new result) self.old self.new }
+        ensures plays { Plays (trace_wait self.old ms) (wait_act ms ready.new result) self.old
+            self.new }
     {
         let mut reported = ReadyList::new();
         report_turn(self.playback.next_turn(), self.ledger.open(), &mut reported);
@@ -134,7 +150,8 @@ impl MemoryHub {
     fn wait_for_none(&mut self, ms: u32, ready: &mut ReadyList, answer: Waited) -> Waited
         requires { IsNoTurn answer }
         ensures fits { FitsWait result ready.old ready.new }
-        ensures plays { Plays (act.Wait ms answer []) (wait_act ms ready.new result) self.old self.new }
+        ensures plays { Plays (act.Wait ms answer []) (wait_act ms ready.new result) self.old
+            self.new }
     {
         let marks = Marks::new(self.alloc);
         match self.add_quiet(Act::Wait { ms, answer, marks }) {
@@ -150,7 +167,8 @@ impl MemoryHub {
     fn read_none(&mut self, serial: u64, room: usize, answer: ReadAnswer) -> ReadAnswer
         requires { IsNoByte answer }
         ensures fits { IsNoByteOrNoMemory result }
-        ensures plays { Plays (act.Read serial room answer []) (none_read_act serial room result) self.old self.new }
+        ensures plays { Plays (act.Read serial room answer []) (none_read_act serial room result)
+            self.old self.new }
     {
         let bytes = Octets::new(self.alloc);
         match self.add_quiet(Act::Read {
@@ -170,7 +188,8 @@ impl MemoryHub {
         requires there { serial ≤ (tally self.old).latest }
         requires some { 0 < length (stream_of self.old serial).unread }
         ensures fits { FitsRead result (length buf.old) }
-        ensures plays { Plays (front_read serial (length buf.old) (stream_of self.old serial)) (read_act serial buf.new result) self.old self.new }
+        ensures plays { Plays (front_read serial (length buf.old) (stream_of self.old serial))
+            (read_act serial buf.new result) self.old self.new }
     {
         let room = buf.len();
         let unread = self.playback.stream(serial).unread();
@@ -199,7 +218,8 @@ impl MemoryHub {
     fn write_none(&mut self, serial: u64, bytes: &[u8], answer: WriteAnswer) -> WriteAnswer
         requires { IsNotTaken answer }
         ensures fits { IsNotTakenOrNoMemory result }
-        ensures plays { Plays (act.Write serial bytes.now answer) (write_act serial bytes.now result) self.old self.new }
+        ensures plays { Plays (act.Write serial bytes.now answer)
+            (write_act serial bytes.now result) self.old self.new }
     {
         let mut offered = Octets::new(self.alloc);
         let Ok(()) = offered.extend(bytes) else {
@@ -219,7 +239,8 @@ impl MemoryHub {
     fn write_some(&mut self, serial: u64, bytes: &[u8], count: usize) -> WriteAnswer
         requires { (0 < count) × (count ≤ length bytes.now) }
         ensures fits { FitsWrite result (length bytes.now) }
-        ensures plays { Plays (act.Write serial bytes.now (written.Took count)) (write_act serial bytes.now result) self.old self.new }
+        ensures plays { Plays (act.Write serial bytes.now (written.Took count))
+            (write_act serial bytes.now result) self.old self.new }
     {
         let mut offered = Octets::new(self.alloc);
         let Ok(()) = offered.extend(bytes) else {
@@ -288,7 +309,8 @@ impl MemoryHub {
     pub(crate) fn play_wait(&mut self, ms: u32, ready: &mut ReadyList) -> Waited
         requires { length (tally self.old).serials < 128 }
         ensures fits { FitsWait result ready.old ready.new }
-        ensures plays { Plays (trace_wait self.old ms) (wait_act ms ready.new result) self.old self.new }
+        ensures plays { Plays (trace_wait self.old ms) (wait_act ms ready.new result) self.old
+            self.new }
     {
         if self.is_to_fail() {
             return self.wait_for_none(ms, ready, Waited::Failed);
@@ -336,7 +358,8 @@ impl MemoryHub {
         requires room { 0 < length buf.old }
         requires there { serial ≤ (tally self.old).latest }
         ensures fits { FitsRead result (length buf.old) }
-        ensures plays { Plays (trace_read self.old serial (length buf.old)) (read_act serial buf.new result) self.old self.new }
+        ensures plays { Plays (trace_read self.old serial (length buf.old))
+            (read_act serial buf.new result) self.old self.new }
     {
         match self.next_end(serial) {
             Some(answer) => self.read_none(serial, buf.len(), answer),
@@ -364,7 +387,8 @@ impl MemoryHub {
         requires some { 0 < length bytes.now }
         requires there { serial ≤ (tally self.old).latest }
         ensures fits { FitsWrite result (length bytes.now) }
-        ensures plays { Plays (trace_write self.old serial bytes.now) (write_act serial bytes.now result) self.old self.new }
+        ensures plays { Plays (trace_write self.old serial bytes.now)
+            (write_act serial bytes.now result) self.old self.new }
     {
         match self.next_write(serial, bytes.len()) {
             WriteAnswer::Took(count) => self.write_some(serial, bytes, count),
@@ -418,8 +442,10 @@ impl Hub for MemoryHub {
 
     /// Fails exactly if the call is listed.
     fn listen(&mut self, port: u16) -> Result<(), CallFault>
-        ensures calls { HubCalls (listen_act port result) (hub_state self.old) (hub_state self.new) }
-        ensures plays { Plays (trace_listen self.old port) (listen_act port result) self.old self.new }
+        ensures calls { HubCalls (listen_act port result) (hub_state self.old)
+            (hub_state self.new) }
+        ensures plays { Plays (trace_listen self.old port) (listen_act port result) self.old
+            self.new }
         ensures leads { PlaysOn self.old self.new }
     {
         self.play_listen(port)
@@ -430,8 +456,10 @@ impl Hub for MemoryHub {
         requires soon { ms ≤ 1000 }
         requires few { length (hub_state self.old).open_now < 128 }
         ensures fits { FitsWait result ready.old ready.new }
-        ensures calls { HubCalls (wait_act ms ready.new result) (hub_state self.old) (hub_state self.new) }
-        ensures plays { Plays (trace_wait self.old ms) (wait_act ms ready.new result) self.old self.new }
+        ensures calls { HubCalls (wait_act ms ready.new result) (hub_state self.old)
+            (hub_state self.new) }
+        ensures plays { Plays (trace_wait self.old ms) (wait_act ms ready.new result) self.old
+            self.new }
         ensures leads { PlaysOn self.old self.new }
     {
         self.play_wait(ms, ready)
@@ -461,8 +489,10 @@ impl Hub for MemoryHub {
         requires is_open { Contains (hub_state self.old).open_now serial }
         requires room { 0 < length buf.old }
         ensures fits { FitsRead result (length buf.old) }
-        ensures calls { HubCalls (read_act serial buf.new result) (hub_state self.old) (hub_state self.new) }
-        ensures plays { Plays (trace_read self.old serial (length buf.old)) (read_act serial buf.new result) self.old self.new }
+        ensures calls { HubCalls (read_act serial buf.new result) (hub_state self.old)
+            (hub_state self.new) }
+        ensures plays { Plays (trace_read self.old serial (length buf.old))
+            (read_act serial buf.new result) self.old self.new }
         ensures leads { PlaysOn self.old self.new }
     {
         // An open serial was accepted: the fields show it.
@@ -475,8 +505,10 @@ impl Hub for MemoryHub {
         requires is_open { Contains (hub_state self.old).open_now serial }
         requires some { 0 < length bytes.now }
         ensures fits { FitsWrite result (length bytes.now) }
-        ensures calls { HubCalls (write_act serial bytes.now result) (hub_state self.old) (hub_state self.new) }
-        ensures plays { Plays (trace_write self.old serial bytes.now) (write_act serial bytes.now result) self.old self.new }
+        ensures calls { HubCalls (write_act serial bytes.now result) (hub_state self.old)
+            (hub_state self.new) }
+        ensures plays { Plays (trace_write self.old serial bytes.now)
+            (write_act serial bytes.now result) self.old self.new }
         ensures leads { PlaysOn self.old self.new }
     {
         // An open serial was accepted: the fields show it.
@@ -487,7 +519,8 @@ impl Hub for MemoryHub {
     /// Never fails but out of memory.
     fn close(&mut self, serial: u64) -> Result<(), OutOfMemory>
         requires is_open { Contains (hub_state self.old).open_now serial }
-        ensures calls { HubCalls (close_act serial result) (hub_state self.old) (hub_state self.new) }
+        ensures calls { HubCalls (close_act serial result) (hub_state self.old)
+            (hub_state self.new) }
         ensures plays { Plays (trace_close serial) (close_act serial result) self.old self.new }
         ensures leads { PlaysOn self.old self.new }
     {

@@ -1,6 +1,19 @@
 //! A trace as it is played.
 
-ghost use Rattle.std.specs.Prelude.{◌≡◌, ◌==◌, ◌<◌, ◌≤◌, [], drop, length, filter, Some, slice_get, IfOk, IfSome};
+ghost use Rattle.std.specs.Prelude.{
+  ◌≡◌,
+  ◌==◌,
+  ◌<◌,
+  ◌≤◌,
+  [],
+  drop,
+  length,
+  filter,
+  Some,
+  slice_get,
+  IfOk,
+  IfSome,
+};
 ghost use Rattle.std.specs.List.{prefix_len};
 ghost use Rattle.script_screen.specs.Traces.{is_join};
 ghost use Rattle.hub_mem.specs.Stories.{is_in_turn, next_turn, story_of, turn_length};
@@ -155,7 +168,8 @@ impl Playback {
 
     /// Counts that many bytes of a stream as read.
     pub(crate) fn skip(&mut self, serial: u64, count: usize)
-        requires { IfSome (slice_get self.old.table.feeds serial) (λ f. count ≤ length f.stream.unread) }
+        requires { IfSome (slice_get self.old.table.feeds serial)
+            (λ f. count ≤ length f.stream.unread) }
         ensures table { Changes serial (with_read count) self.old.table self.new.table }
         ensures same { self.new ≡ record self.old { table = self.new.table } }
     {

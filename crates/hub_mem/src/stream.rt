@@ -9,8 +9,8 @@ use share_base::OutOfMemory;
 use std::alloc::Global;
 use std::marker::Model;
 
-/// A stream: all bytes that its trace has for it, and how far they came and were read. Contracts see
-/// a `Feed`.
+/// A stream: all bytes that its trace has for it, and how far they came and were read. Contracts
+/// see a `Feed`.
 #[derive(Drop)]
 pub(crate) struct Stream {
     bytes: Vec<u8>,
@@ -57,7 +57,8 @@ impl Stream {
 
     /// Adds bytes that come later. On `OutOfMemory` nothing changed.
     pub(crate) fn add_coming(&mut self, bytes: &[u8]) -> Result<(), OutOfMemory>
-        ensures ok { OnOk result (self.new ≡ record self.old { coming = self.old.coming ++ bytes.now }) }
+        ensures ok { OnOk result
+            (self.new ≡ record self.old { coming = self.old.coming ++ bytes.now }) }
         ensures err { OnErr result (self.new ≡ self.old) }
     {
         self.bytes.extend_from_slice(bytes)?;

@@ -1,6 +1,20 @@
 //! The streams of a hub in memory.
 
-ghost use Rattle.std.specs.Prelude.{◌≡◌, ◌<◌, ◌≤◌, ◌∷◌, [], ℕ, length, replicate, Some, slice_get, IfSome, IfOk, OnOk};
+ghost use Rattle.std.specs.Prelude.{
+  ◌≡◌,
+  ◌<◌,
+  ◌≤◌,
+  ◌∷◌,
+  [],
+  ℕ,
+  length,
+  replicate,
+  Some,
+  slice_get,
+  IfSome,
+  IfOk,
+  OnOk,
+};
 ghost use Rattle.hub_mem.specs.Stories.{Came, clock_after, joined_after};
 ghost use Rattle.hub_mem.specs.Streams.{names, is_at, with_read, with_taken};
 ghost use Rattle.hub_mem.specs.Feeds.{bytes_of, new_feed};
@@ -58,7 +72,8 @@ impl Model for Streams {
 impl Streams {
     /// New streams with the indexes below `count`, for which no bytes come.
     pub(crate) fn new(alloc: Global, count: usize) -> Result<Streams, OutOfMemory>
-        ensures { IfOk result (λ s. s ≡ record { feeds = replicate count new_feed; joined = 0; clock = 0 }) }
+        ensures { IfOk result
+            (λ s. s ≡ record { feeds = replicate count new_feed; joined = 0; clock = 0 }) }
     {
         let mut streams = Vec::with_capacity(alloc, count)?;
         for _index in 0..count {
@@ -71,8 +86,8 @@ impl Streams {
         })
     }
 
-    /// Adds the bytes that a line has for its stream, which come later. On `OutOfMemory` some stream may
-    /// have them.
+    /// Adds the bytes that a line has for its stream, which come later. On `OutOfMemory` some
+    /// stream may have them.
     pub(crate) fn add_coming(&mut self, line: &TraceLine) -> Result<(), OutOfMemory>
         ensures { OnOk result (AddsComing (line.now ∷ []) self.old self.new) }
     {
@@ -123,7 +138,11 @@ impl Streams {
 
     /// Counts a connection that joins, and sets the clock at a turn.
     fn count(&mut self, line: &TraceLine)
-        ensures { self.new ≡ record self.old { joined = joined_after self.old.joined (Came line.now); clock = clock_after self.old.clock (Came line.now) } }
+        ensures { self.new
+            ≡ record self.old {
+              joined = joined_after self.old.joined (Came line.now);
+              clock = clock_after self.old.clock (Came line.now);
+            } }
     {
         match line {
             TraceLine::Turn(moment) => self.clock = *moment,
@@ -156,7 +175,8 @@ impl Streams {
 
     /// Counts that many bytes of a stream as read.
     pub(crate) fn skip(&mut self, serial: u64, count: usize)
-        requires there { IfSome (slice_get self.old.feeds serial) (λ f. count ≤ length f.stream.unread) }
+        requires there { IfSome (slice_get self.old.feeds serial)
+            (λ f. count ≤ length f.stream.unread) }
         ensures { Changes serial (with_read count) self.old self.new }
     {
         if let Some(stream) = self.streams.get_mut(serial as usize) {

@@ -46,8 +46,8 @@ fn is_writable(turn: &[TraceLine], serial: u64) -> bool
     turn.iter().any(|line| gives_room(line, serial))
 }
 
-/// Reports a turn to the open connections: an accept where one joins, and then a mark for each that the
-/// turn has a line for.
+/// Reports a turn to the open connections: an accept where one joins, and then a mark for each that
+/// the turn has a line for.
 pub(crate) fn report_turn(turn: &[TraceLine], serials: &[u64], ready: &mut ReadyList)
     requires empty { ready.old ≡ [] }
     requires few { length serials.now < 128 }

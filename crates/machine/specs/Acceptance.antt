@@ -52,11 +52,14 @@ abbrev pub most_open : ℕ
 most_open = 64
 
 abbrev pub opened : ℕ → State → State
-opened serial s = logs (Open serial ∷ []) (record s { connections = s.connections ++ fresh serial s.at ∷ [] })
+opened serial s =
+    logs (Open serial ∷ []) (record s { connections = s.connections ++ fresh serial s.at ∷ [] })
 
 abbrev pub greet : ℕ → State → State
 greet serial s = route Own (Client serial) (msg.Hello 1 6) s
 
 -- where as many are open as may be, the new one parts at once
 abbrev pub accept : ℕ → State → State
-accept serial s = choose (nat_le most_open (length s.connections)) (part cause.Full serial) (greet serial) (opened serial s)
+accept serial s =
+    choose (nat_le most_open (length s.connections)) (part cause.Full serial) (greet serial)
+    (opened serial s)

@@ -35,12 +35,15 @@ clip_limit s = standing s.config.settings option.ClipboardSharingSize * 1024
 -- the primary prints it whole, a client is sent its parts with sequence 0
 abbrev pub give : ClipId → List ℕ → Target → State → State
 give id bytes Primary s = logs (Local (line.Clip id bytes) ∷ []) s
-give id bytes (Client serial) s = route_each Own (Client serial) (map message_of (parts_of id 0 bytes)) s
+give id bytes (Client serial) s =
+    route_each Own (Client serial) (map message_of (parts_of id 0 bytes)) s
 
 -- the active screen, where it is dirty, is sent the known bytes, and is clean
 abbrev pub refresh : ClipId → State → State
 refresh id s =
-    for_some (rules.given (screen_of s s.active) (clip s id)) (λ bytes t. give id bytes t.active (set_clip id (rules.entered (screen_of t t.active) (clip t id)) t)) unchanged s
+    for_some (rules.given (screen_of s s.active) (clip s id))
+    (λ bytes t. give id bytes t.active
+    (set_clip id (rules.entered (screen_of t t.active) (clip t id)) t)) unchanged s
 
 abbrev pub refresh_both : State → State
 refresh_both s = refresh Selection (refresh Clipboard s)
@@ -49,11 +52,13 @@ refresh_both s = refresh Selection (refresh Clipboard s)
 
 -- its bytes are known, and the active screen is sent them at once
 abbrev pub become_known : ClipId → ℕ → ℕ → List ℕ → State → State
-become_known id owner seq bytes s = refresh id (set_clip id (rules.known owner seq bytes (joined_screens s)) s)
+become_known id owner seq bytes s =
+    refresh id (set_clip id (rules.known owner seq bytes (joined_screens s)) s)
 
 -- every joined client hears of the script's copy before that
 abbrev pub publish : ClipId → List ℕ → State → State
-publish id bytes s = become_known id s.primary s.sequence bytes (route_all Own (joined_clients s) (msg.Grab id 0) s)
+publish id bytes s =
+    become_known id s.primary s.sequence bytes (route_all Own (joined_clients s) (msg.Grab id 0) s)
 
 abbrev pub copy : ClipId → List ℕ → State → State
 copy id bytes s = when (is_sharing s && rules.copy_counts (clip_limit s) bytes) (publish id bytes) s
@@ -64,20 +69,25 @@ all_but serial s = Primary ∷ filter (λ t. not (same_target t (Client serial))
 
 -- a client takes a clipboard, and all others hear of it
 abbrev pub take_over : ClipId → ℕ → ℕ → State → State
-take_over id serial seq s = route_all Own (all_but serial s) (msg.Grab id 0) (set_clip id (rules.unknown (screen_of s (Client serial)) seq) s)
+take_over id serial seq s =
+    route_all Own (all_but serial s) (msg.Grab id 0)
+    (set_clip id (rules.unknown (screen_of s (Client serial)) seq) s)
 
 abbrev pub grab : ClipId → ℕ → ℕ → State → State
-grab id serial seq s = when (is_sharing s && rules.grab_counts seq s.sequence (clip s id)) (take_over id serial seq) s
+grab id serial seq s =
+    when (is_sharing s && rules.grab_counts seq s.sequence (clip s id)) (take_over id serial seq) s
 
 -- a whole clipboard came from its owner
 abbrev pub whole : ClipId → ℕ → ℕ → List ℕ → State → State
 whole id serial seq bytes s =
-    when (is_sharing s && rules.whole_counts (screen_of s (Client serial)) seq s.sequence (clip s id)) (become_known id (screen_of s (Client serial)) seq bytes) s
+    when (is_sharing s && rules.whole_counts (screen_of s (Client serial)) seq s.sequence
+    (clip s id)) (become_known id (screen_of s (Client serial)) seq bytes) s
 
 -- ---- who joins and who leaves
 
 abbrev pub each_clip : (Clip → Clip) → State → State
-each_clip f s = record s { clips = record { clipboard = f s.clips.clipboard; selection = f s.clips.selection } }
+each_clip f s =
+    record s { clips = record { clipboard = f s.clips.clipboard; selection = f s.clips.selection } }
 
 abbrev pub clips_joined : ℕ → State → State
 clips_joined screen s = each_clip (rules.joined screen) s

@@ -48,18 +48,22 @@ abbrev pub lacks : State → OptionName → ModClass → Bool
 lacks s option c = flag s.config.settings option && not (has_mod s c)
 
 abbrev pub lacks_modifier : State → Bool
-lacks_modifier s = lacks s option.SwitchNeedsShift class.Shift || lacks s option.SwitchNeedsControl class.Control || lacks s option.SwitchNeedsAlt class.Alt
+lacks_modifier s = lacks s option.SwitchNeedsShift class.Shift
+    || lacks s option.SwitchNeedsControl class.Control || lacks s option.SwitchNeedsAlt class.Alt
 
 abbrev pub is_at_corner : State → Edge → Bool
-is_at_corner s e = is_in_corner (corners_of s.config (screen_of s s.active)) e.side e.p (edge_length s e.side)
+is_at_corner s e =
+    is_in_corner (corners_of s.config (screen_of s s.active)) e.side e.p (edge_length s e.side)
 
 abbrev pub is_blocked : State → Edge → Bool
-is_blocked s e = s.is_locked || (s.sequence == last_sequence) || not (length s.buttons == 0) || is_at_corner s e || lacks_modifier s
+is_blocked s e = s.is_locked || (s.sequence == last_sequence) || not (length s.buttons == 0)
+    || is_at_corner s e || lacks_modifier s
 
 -- ---- where it leads
 
 abbrev pub place_on : State → Edge → Landing
-place_on s e = record { screen = record { 0 = screen_of s s.active }; t = place_of e.p (edge_length s e.side) }
+place_on s e =
+    record { screen = record { 0 = screen_of s s.active }; t = place_of e.p (edge_length s e.side) }
 
 abbrev pub landing : State → Edge → Option Landing
 landing s e = landing_across s.config.links (is_screen_joined s) e.side (place_on s e)
@@ -70,7 +74,9 @@ pub record Way : Type 0 where
   pub landing : Landing
 
 abbrev pub way : State → Edge → Option Way
-way s e = option_map (λ l. record { side = e.side; landing = l }) (if is_blocked s e then None else landing s e)
+way s e =
+    option_map (λ l. record { side = e.side; landing = l })
+    (if is_blocked s e then None else landing s e)
 
 abbrev pub way_on : State → Point → Axis → Option Way
 way_on s p axis = option_and_then (way s) (passed_edge s p axis)

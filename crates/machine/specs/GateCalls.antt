@@ -25,7 +25,9 @@ waiting s = gate_wait (delay s) (tap_time s) s.gate_calls
 -- the side of the tap or of the wait that is kept
 abbrev pub kept_side : State → Option Side
 kept_side s =
-    if nat_lt 0 (tap_time s) then option_map (λ (t : Tap). t.side) (kept_tap (tap_time s) s.gate_calls) else option_map (λ (w : Waiting). w.side) (waiting s)
+    if nat_lt 0 (tap_time s)
+    then option_map (λ (t : Tap). t.side) (kept_tap (tap_time s) s.gate_calls)
+    else option_map (λ (w : Waiting). w.side) (waiting s)
 
 -- another side than that one is kept
 abbrev pub keeps_other : State → Side → Bool

@@ -27,6 +27,7 @@ IsAllowed latest s (Joined serial) = latest < serial
 IsAllowed latest s (Got serial piece) = IsOpen s serial
 IsAllowed latest s (Ended serial) = IsOpen s serial
 IsAllowed latest s (Failed serial) = IsOpen s serial
-IsAllowed latest s (Took serial count) = IsOpen s serial × (taken_by s serial + count ≤ length (queue s.routed serial))
+IsAllowed latest s (Took serial count) =
+    IsOpen s serial × (taken_by s serial + count ≤ length (queue s.routed serial))
 IsAllowed latest s (Moment t) = Unit {0}
 IsAllowed latest s (Closed serial) = IsOpen s serial

@@ -29,8 +29,11 @@ is_used s screen = (screen == s.primary) || list_any (uses screen) s.connections
 -- a refused one parts for the cause
 abbrev pub answer : HelloAnswer → ℕ → ℕ → State → State
 answer (Refused cause) accepted serial s = part cause serial s
-answer (Admitted screen) accepted serial s = change serial (advanced (after_hello (Admitted screen) accepted (rate s) s.at)) (route Own (Client serial) msg.QueryInfo s)
+answer (Admitted screen) accepted serial s =
+    change serial (advanced (after_hello (Admitted screen) accepted (rate s) s.at))
+    (route Own (Client serial) msg.QueryInfo s)
 
 -- from a connection that was accepted at that moment
 abbrev pub hear_hello : ℕ → ℕ → List ℕ → ℕ → ℕ → State → State
-hear_hello major minor name accepted serial s = answer (hello_answer major minor (screen_of s.config name) (is_used s)) accepted serial s
+hear_hello major minor name accepted serial s =
+    answer (hello_answer major minor (screen_of s.config name) (is_used s)) accepted serial s

@@ -19,13 +19,18 @@ use Rattle.machine.specs.Partings.{part}
 
 -- as the configuration spells it
 abbrev pub name_of : State → ℕ → List ℕ
-name_of s screen = unwrap_or (option_map (λ (n : named.Screen). n.name) (slice_get s.config.screens screen)) []
+name_of s screen =
+    unwrap_or (option_map (λ (n : named.Screen). n.name) (slice_get s.config.screens screen)) []
 
 -- it is joined, and dirty for the clipboards that are known; it is told its options
 abbrev pub join : AskedScreen → Shape → ℕ → State → State
 join asked shape serial s =
-    route_each Own (Client serial) (msg.InfoAck ∷ msg.ResetOptions ∷ msg.SetOptions (wire_options_of s.config asked.screen) ∷ [])
-    (logs (Join serial (name_of s asked.screen) ∷ []) (change serial (advanced (asked_after_info (Some shape) s.at asked)) (clips_joined asked.screen s)))
+    route_each Own (Client serial)
+    (msg.InfoAck ∷ msg.ResetOptions ∷ msg.SetOptions (wire_options_of s.config asked.screen)
+    ∷ [])
+    (logs (Join serial (name_of s asked.screen) ∷ [])
+    (change serial (advanced (asked_after_info (Some shape) s.at asked))
+    (clips_joined asked.screen s)))
 
 abbrev pub clamp_cursor : Shape → State → State
 clamp_cursor shape s = record s { cursor = clamped shape s.cursor }
@@ -33,7 +38,9 @@ clamp_cursor shape s = record s { cursor = clamped shape s.cursor }
 -- the cursor, where it is there, stays inside
 abbrev pub reshape : JoinedScreen → Shape → ℕ → State → State
 reshape joined shape serial s =
-    when (same_target s.active (Client serial)) (clamp_cursor shape) (route Own (Client serial) msg.InfoAck (change serial (advanced (joined_after_info (Some shape) s.at joined)) s))
+    when (same_target s.active (Client serial)) (clamp_cursor shape)
+    (route Own (Client serial) msg.InfoAck
+    (change serial (advanced (joined_after_info (Some shape) s.at joined)) s))
 
 -- a shape that no screen has is refused
 abbrev pub hear_first_info : AskedScreen → Option Shape → ℕ → State → State

@@ -34,4 +34,5 @@ pressed_by_action test (action.KeyPress id mods button) = test button.0
 pressed_by_action test _ = true
 
 abbrev pub pressed_by_rule : (ℕ → Bool) → Rule → Bool
-pressed_by_rule test rule = list_all (pressed_by_action test) rule.press && list_all (pressed_by_action test) rule.release
+pressed_by_rule test rule =
+    list_all (pressed_by_action test) rule.press && list_all (pressed_by_action test) rule.release

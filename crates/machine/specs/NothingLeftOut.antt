@@ -1,4 +1,5 @@
--- The law that a connection whose queue lacks a frame is parting: all that a live one was told is in its queue.
+-- The law that a connection whose queue lacks a frame is parting: all that a live one was told is
+-- in its queue.
 use Rattle.std.specs.Prelude.{◌≡◌, ℕ, true, List, Contains}
 use Rattle.screen_config.specs.Configurations.{Configuration}
 use Rattle.machine.specs.Scripts.{Script}
@@ -13,9 +14,11 @@ use Rattle.machine.specs.Runs.{AreAllowed}
 
 abbrev pub NothingIsLeftOut : State → Type 0
 NothingIsLeftOut s =
-    (c : Connection) → Contains s.connections c → is_live c ≡ true → queued_messages s.routed c.serial ≡ messages_for (Client c.serial) s.routed
+    (c : Connection) → Contains s.connections c → is_live c ≡ true
+    → queued_messages s.routed c.serial ≡ messages_for (Client c.serial) s.routed
 
 abbrev pub NothingLeftOut : Type 0
 NothingLeftOut =
     (config : Configuration) (script : Script) (now : ℕ) (hs : List Happening)
-    → AreAllowed 0 (start config script now) hs → NothingIsLeftOut (run hs (start config script now))
+    → AreAllowed 0 (start config script now) hs
+    → NothingIsLeftOut (run hs (start config script now))

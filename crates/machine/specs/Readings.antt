@@ -1,4 +1,5 @@
--- What is read off a state: who is read from and who is to be closed, when something is due, and whether the run is over.
+-- What is read off a state: who is read from and who is to be closed, when something is due, and
+-- whether the run is over.
 use Rattle.std.specs.Prelude.{ℕ, ◌+◌, min, Bool, true, false, not, ◌&&◌, ◌||◌, ◌==◌, nat_le, List, [], ◌∷◌, ◌++◌, length, fold, Option}
 use Rattle.std.specs.List.{find, flat_map}
 use Rattle.std.specs.Option.{option_map, option_to_list}
@@ -22,7 +23,8 @@ accepts s = not s.has_quit
 
 -- it is parting, and nothing is to be taken any more, or its time is over
 abbrev pub is_to_close_in : Phase → State → Connection → Bool
-is_to_close_in (Parting cause moment) s c = not (has_untaken s c) || nat_le (moment + closing_time) s.at
+is_to_close_in (Parting cause moment) s c =
+    not (has_untaken s c) || nat_le (moment + closing_time) s.at
 is_to_close_in _ s c = false
 
 abbrev pub is_to_close : State → Connection → Bool
@@ -45,7 +47,8 @@ abbrev pub only_if : Bool → List ℕ → List ℕ
 only_if true moments = moments
 only_if false moments = []
 
--- the next beat and the death of a joined connection, the silence of one that hasn't joined, the end of a parting's time
+-- the next beat and the death of a joined connection, the silence of one that hasn't joined, the
+-- end of a parting's time
 abbrev pub due_in : Phase → State → Connection → List ℕ
 due_in (Joined joined) s c = option_to_list (due_moment joined.alive)
 due_in (Parting cause moment) s c = only_if (has_untaken s c) ((moment + closing_time) ∷ [])
@@ -61,10 +64,14 @@ line_due s (l ∷ ahead) = only_if (may_run s l) (s.at ∷ [])
 
 -- the end of a sleep that holds the script
 abbrev pub sleep_due : State → List ℕ
-sleep_due s = only_if (not s.has_quit) (flat_map (λ end. only_if (not (nat_le end s.at)) (end ∷ [])) (option_to_list s.sleeps_until))
+sleep_due s =
+    only_if (not s.has_quit)
+    (flat_map (λ end. only_if (not (nat_le end s.at)) (end ∷ [])) (option_to_list s.sleeps_until))
 
 abbrev pub all_due : State → List ℕ
-all_due s = flat_map (λ (c : Connection). due_in c.phase s c) s.connections ++ gate_due s ++ sleep_due s ++ line_due s s.lines
+all_due s =
+    flat_map (λ (c : Connection). due_in c.phase s c) s.connections ++ gate_due s ++ sleep_due s
+    ++ line_due s s.lines
 
 abbrev pub never : ℕ
 never = 18446744073709551615

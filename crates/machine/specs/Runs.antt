@@ -6,4 +6,5 @@ use Rattle.machine.specs.Steps.{step}
 
 abbrev pub AreAllowed : ℕ → State → List Happening → Type 0
 AreAllowed latest s [] = Unit {0}
-AreAllowed latest s (h ∷ hs) = IsAllowed latest s h × AreAllowed (latest_after latest h) (step s h) hs
+AreAllowed latest s (h ∷ hs) =
+    IsAllowed latest s h × AreAllowed (latest_after latest h) (step s h) hs

@@ -19,6 +19,7 @@ first_slow s = find (is_too_slow s) s.connections
 abbrev pub part_first_slow : State → State
 part_first_slow s = for_some (first_slow s) (λ c. part cause.Slow c.serial) unchanged s
 
--- one after another until none is left; each parts once, so there are no more turns than connections
+-- one after another until none is left; each parts once, so there are no more turns than
+-- connections
 abbrev pub part_slow : State → State
 part_slow s = times (length s.connections) part_first_slow s

@@ -26,7 +26,9 @@ clock t s = record s { at = max s.at (moment_of t) }
 
 -- what a timer does to one connection, where it has come
 abbrev pub timer : (State → Connection → Bool) → (ℕ → State → State) → ℕ → State → State
-timer has_come rule serial s = for_some (connection s serial) (λ c. when (has_come s c) (λ t. part_slow (rule serial t))) unchanged s
+timer has_come rule serial s =
+    for_some (connection s serial) (λ c. when (has_come s c) (λ t. part_slow (rule serial t)))
+    unchanged s
 
 -- and to each, by rising serial
 abbrev pub timers : (State → Connection → Bool) → (ℕ → State → State) → State → State
@@ -64,10 +66,13 @@ switch_through (Switch to p) s = switch Own to p s
 
 -- the edge of that side at the cursor is tried without the gate, and the wait ends
 abbrev pub try : Waiting → State → State
-try w s = for_some (way s (edge_at_cursor s w.side)) (λ v t. switch_through (through t v) t) unchanged (hear_away s)
+try w s =
+    for_some (way s (edge_at_cursor s w.side)) (λ v t. switch_through (through t v) t) unchanged
+    (hear_away s)
 
 abbrev pub gate_timer : State → State
-gate_timer s = for_some (waiting s) (λ w. when (nat_le w.due s.at) (λ t. part_slow (try w t))) unchanged s
+gate_timer s =
+    for_some (waiting s) (λ w. when (nat_le w.due s.at) (λ t. part_slow (try w t))) unchanged s
 
 -- ---- in order
 

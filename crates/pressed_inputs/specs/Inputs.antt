@@ -1,4 +1,5 @@
--- What the script holds down, as the server machine remembers it, what each event makes of it, and what is read off it.
+-- What the script holds down, as the server machine remembers it, what each event makes of it, and
+-- what is read off it.
 use Rattle.std.specs.Prelude.{ℕ, Bool, not, ◌==◌, List, [], ◌∷◌, filter, length, Option, unwrap_or, bit_and, bit_or}
 use Rattle.std.specs.List.{list_any}
 use Rattle.share_base.specs.declared.numbers.RuleNo.{RuleNo}
@@ -15,7 +16,13 @@ pub record Inputs : Type 0 where
   pub taken_buttons : List (ℕ × RuleNo)
 
 abbrev pub inputs_of : State → Inputs
-inputs_of s = record { presses = s.presses; buttons = s.buttons; taken_keys = s.taken_keys; taken_buttons = s.taken_buttons }
+inputs_of s =
+    record {
+      presses = s.presses;
+      buttons = s.buttons;
+      taken_keys = s.taken_keys;
+      taken_buttons = s.taken_buttons;
+    }
 
 abbrev pub nothing : Inputs
 nothing = record { presses = []; buttons = []; taken_keys = []; taken_buttons = [] }
@@ -23,16 +30,26 @@ nothing = record { presses = []; buttons = []; taken_keys = []; taken_buttons = 
 -- ---- after an event; a rule, if any, takes what goes down
 
 abbrev pub after_key_down : ℕ → ℕ → Option RuleNo → Inputs → Inputs
-after_key_down id button rule i = record i { presses = Press id button ∷ i.presses; taken_keys = taken_too rule button i.taken_keys }
+after_key_down id button rule i =
+    record i {
+      presses = Press id button ∷ i.presses;
+      taken_keys = taken_too rule button i.taken_keys;
+    }
 
 abbrev pub after_key_up : ℕ → Inputs → Inputs
-after_key_up button i = record i { presses = Release button ∷ i.presses; taken_keys = released button i.taken_keys }
+after_key_up button i =
+    record i { presses = Release button ∷ i.presses; taken_keys = released button i.taken_keys }
 
 abbrev pub after_button_down : ℕ → Option RuleNo → Inputs → Inputs
-after_button_down b rule i = record i { buttons = b ∷ i.buttons; taken_buttons = taken_too rule b i.taken_buttons }
+after_button_down b rule i =
+    record i { buttons = b ∷ i.buttons; taken_buttons = taken_too rule b i.taken_buttons }
 
 abbrev pub after_button_up : ℕ → Inputs → Inputs
-after_button_up b i = record i { buttons = filter (λ n. not (n == b)) i.buttons; taken_buttons = released b i.taken_buttons }
+after_button_up b i =
+    record i {
+      buttons = filter (λ n. not (n == b)) i.buttons;
+      taken_buttons = released b i.taken_buttons;
+    }
 
 -- ---- what is read off it
 

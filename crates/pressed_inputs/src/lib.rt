@@ -2,8 +2,8 @@
 //! buttons of the mouse, and which hotkey's rule took which of them.
 //!
 //! It owns the tables of what is down (`specs/Keeping.antt`) and what each event makes of it
-//! (`specs/Inputs.antt`). It may know no screen and no connection: which rule takes a key or a button is
-//! told to it. No call allocates.
+//! (`specs/Inputs.antt`). It may know no screen and no connection: which rule takes a key or a
+//! button is told to it. No call allocates.
 #![tactic(auto)]
 
 mod laws;

@@ -10,8 +10,9 @@ ghost use Rattle.pressed_inputs.specs.Keeping.{Keeps, Leads};
 use modifier_map::{HeldMods, ModClass};
 use share_base::{Button, KeyId, Mask, MouseButton, RuleNo};
 
-/// The keys and mouse buttons that are down, each with the hotkey's rule that took it, and the toggles of
-/// the lock keys. It represents what the server machine remembers of them. No method allocates.
+/// The keys and mouse buttons that are down, each with the hotkey's rule that took it, and the
+/// toggles of the lock keys. It represents what the server machine remembers of them. No method
+/// allocates.
 #[derive(Drop)]
 pub struct Pressed {
     ids: [u16; 256],
@@ -35,7 +36,8 @@ impl Pressed {
         }
     }
 
-    /// A key goes down at a button below 256, taken by a rule or by none. A lock key flips its toggle.
+    /// A key goes down at a button below 256, taken by a rule or by none. A lock key flips its
+    /// toggle.
     pub fn key_down(&mut self, id: KeyId, button: Button, rule: Option<RuleNo>)
         requires { button.0 < 256 }
         ensures { Leads self.old self.new (after_key_down id.0 button.0 rule) }
@@ -89,8 +91,8 @@ impl Pressed {
         self.mods.toggles()
     }
 
-    /// Returns the modifiers of the keys that are down together with the toggles, as key messages carry
-    /// them.
+    /// Returns the modifiers of the keys that are down together with the toggles, as key messages
+    /// carry them.
     pub fn mask(&self) -> Mask
         ensures { (i : Inputs) → Keeps self.now i → result.0 ≡ mask_of i.presses }
     {
@@ -112,7 +114,8 @@ impl Pressed {
         KeyId(self.ids[button.0 as usize])
     }
 
-    /// Returns the rule that took the key at a button below 256; `None` if it is up or no rule took it.
+    /// Returns the rule that took the key at a button below 256; `None` if it is up or no rule took
+    /// it.
     pub fn taking_key(&self, button: Button) -> Option<RuleNo>
         requires { button.0 < 256 }
         ensures { (i : Inputs) → Keeps self.now i → result ≡ taking i.taken_keys button.0 }

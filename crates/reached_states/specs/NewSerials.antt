@@ -13,4 +13,5 @@ pub record IsNewSerial (serial : ℕ) (s : State) : Type 0 where
   pub untold : entries_for (Client serial) s.routed ≡ []
 
 abbrev pub NewIsUntold : Type 0
-NewIsUntold = (o : Origin) (latest : ℕ) (s : State) (serial : ℕ) → Reached o latest s → latest < serial → IsNewSerial serial s
+NewIsUntold = (o : Origin) (latest : ℕ) (s : State) (serial : ℕ) → Reached o latest s
+    → latest < serial → IsNewSerial serial s

@@ -1,5 +1,5 @@
--- The laws on the serials of the connections that are open: which ones a happening adds and removes, that they rise, and
--- that the one to be closed is open.
+-- The laws on the serials of the connections that are open: which ones a happening adds and
+-- removes, that they rise, and that the one to be closed is open.
 use Rattle.std.specs.Prelude.{◌≡◌, ℕ, ◌<◌, ◌≤◌, ◌+◌, ◌==◌, not, List, [], ◌∷◌, ◌++◌, length, filter, All, Some}
 use Rattle.machine.specs.Connections.{Connection, serials}
 use Rattle.machine.specs.States.{State}
@@ -17,7 +17,8 @@ serials_after (Closed serial) those = filter (λ n. not (n == serial)) those
 serials_after _ those = those
 
 abbrev pub OpenAfter : Type 0
-OpenAfter = (s : State) (h : Happening) → serials (step s h).connections ≡ serials_after h (serials s.connections)
+OpenAfter = (s : State) (h : Happening)
+    → serials (step s h).connections ≡ serials_after h (serials s.connections)
 
 -- ---- in order
 
@@ -40,8 +41,10 @@ ClosingIsOpen = (s : State) (serial : ℕ) → closing s ≡ Some serial → IsO
 
 -- a connection has taken no more bytes than are queued for it
 abbrev pub TakenIsQueued : Type 0
-TakenIsQueued = (o : Origin) (latest : ℕ) (s : State) (serial : ℕ) → Reached o latest s → taken_by s serial ≤ length (queue s.routed serial)
+TakenIsQueued = (o : Origin) (latest : ℕ) (s : State) (serial : ℕ) → Reached o latest s
+    → taken_by s serial ≤ length (queue s.routed serial)
 
 -- and it is never owed more than the limit
 abbrev pub UntakenIsBounded : Type 0
-UntakenIsBounded = (o : Origin) (latest : ℕ) (s : State) (serial : ℕ) → Reached o latest s → IsOpen s serial → length (queue s.routed serial) ≤ taken_by s serial + most_untaken
+UntakenIsBounded = (o : Origin) (latest : ℕ) (s : State) (serial : ℕ) → Reached o latest s
+    → IsOpen s serial → length (queue s.routed serial) ≤ taken_by s serial + most_untaken

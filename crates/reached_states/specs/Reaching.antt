@@ -1,4 +1,5 @@
--- The states that the machine reaches from its start, by happenings that may come one after another.
+-- The states that the machine reaches from its start, by happenings that may come one after
+-- another.
 use Rattle.std.specs.Prelude.{◌≡◌, ℕ, List, [], ◌∷◌}
 use Rattle.screen_config.specs.Configurations.{Configuration}
 use Rattle.machine.specs.Scripts.{Script}
@@ -34,5 +35,6 @@ pub record Reached (o : Origin) (latest : ℕ) (s : State) : Type 0 where
 -- a happening that may come leads from a reached state to a reached one
 abbrev pub GoesOn : Type 0
 GoesOn =
-    (o : Origin) (latest : ℕ) (s : State) (h : Happening) → Reached o latest s → IsAllowed latest s h
+    (o : Origin) (latest : ℕ) (s : State) (h : Happening) → Reached o latest s
+    → IsAllowed latest s h
     → Reached o (latest_after latest h) (step s h)

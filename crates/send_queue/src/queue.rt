@@ -68,8 +68,8 @@ impl SendQueue {
     }
 
     /// Queues a message, whose body has at most `BODY_LIMIT` bytes, or leaves its frame out where
-    /// it has no room or an earlier one had none. On `OutOfMemory`, which also comes where 2^63 bytes
-    /// would have been queued in all, the queue is unchanged.
+    /// it has no room or an earlier one had none. On `OutOfMemory`, which also comes where 2^63
+    /// bytes would have been queued in all, the queue is unchanged.
     pub fn push(&mut self, msg: &Msg) -> Result<Pushed, OutOfMemory>
         requires { length (body_of msg.now) ≤ BODY_LIMIT }
         ensures ok { IfOk result (λ pushed. Pushes self.old self.new msg.now pushed) }

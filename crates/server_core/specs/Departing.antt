@@ -30,5 +30,12 @@ leaves_from b core s h = record {
   log = h.log;
 }
 
-pub departs_too : (core : ServerCore) (front : List ℕ) (s : State) → serves_in core front s → departs_in core front s
-departs_too core front s h = record { beside = h.beside; front_is = h.front_is; rests = h.rests; leaves = leaves_from h.beside core s h.stands }
+pub departs_too : (core : ServerCore) (front : List ℕ) (s : State) → serves_in core front s
+    → departs_in core front s
+departs_too core front s h =
+    record {
+      beside = h.beside;
+      front_is = h.front_is;
+      rests = h.rests;
+      leaves = leaves_from h.beside core s h.stands;
+    }

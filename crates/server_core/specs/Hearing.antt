@@ -11,21 +11,27 @@ use Rattle.server_core.specs.Leading.{LeadsWhere}
 
 -- it is to answer the greeting
 abbrev pub LeadsGreeting : ℕ → ServerCore → ServerCore → (ℕ → State → State) → Type 0
-LeadsGreeting serial old new rule = (accepted : ℕ) → LeadsWhere (λ s. phase_of s serial ≡ Some (Greeting accepted)) old new (rule accepted)
+LeadsGreeting serial old new rule = (accepted : ℕ)
+    → LeadsWhere (λ s. phase_of s serial ≡ Some (Greeting accepted)) old new (rule accepted)
 
 -- it was asked as that screen
 abbrev pub LeadsAsked : ℕ → ℕ → ServerCore → ServerCore → (AskedScreen → State → State) → Type 0
-LeadsAsked serial screen old new rule = (asked : AskedScreen) → screen ≡ asked.screen → LeadsWhere (λ s. phase_of s serial ≡ Some (Asked asked)) old new (rule asked)
+LeadsAsked serial screen old new rule = (asked : AskedScreen) → screen ≡ asked.screen
+    → LeadsWhere (λ s. phase_of s serial ≡ Some (Asked asked)) old new (rule asked)
 
 -- it is joined
 abbrev pub LeadsJoined : ℕ → ServerCore → ServerCore → (JoinedScreen → State → State) → Type 0
-LeadsJoined serial old new rule = (joined : JoinedScreen) → LeadsWhere (λ s. phase_of s serial ≡ Some (Joined joined)) old new (rule joined)
+LeadsJoined serial old new rule = (joined : JoinedScreen)
+    → LeadsWhere (λ s. phase_of s serial ≡ Some (Joined joined)) old new (rule joined)
 
 -- and the message was counted as heard
 abbrev pub LeadsHeard : ℕ → ServerCore → ServerCore → (JoinedScreen → State → State) → Type 0
-LeadsHeard serial old new rule = (joined : JoinedScreen) → LeadsWhere (λ s. phase_of s serial ≡ Some (after_hearing_in (Joined joined) s.at)) old new (rule joined)
+LeadsHeard serial old new rule = (joined : JoinedScreen)
+    → LeadsWhere (λ s. phase_of s serial ≡ Some (after_hearing_in (Joined joined) s.at)) old new
+    (rule joined)
 
 -- the information that a message tells
 abbrev pub info_of : Msg → Option InfoFields
-info_of (msg.Info x y w h warp mx my) = Some (record { x = x; y = y; w = w; h = h; warp = warp; mx = mx; my = my })
+info_of (msg.Info x y w h warp mx my) =
+    Some (record { x = x; y = y; w = w; h = h; warp = warp; mx = mx; my = my })
 info_of _ = None

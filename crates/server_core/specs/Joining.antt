@@ -8,4 +8,6 @@ use Rattle.machine.specs.Routing.{route_each}
 
 -- its information is acknowledged, and it is told the options of that screen
 abbrev pub tell_options : ℕ → ℕ → State → State
-tell_options serial screen s = route_each Own (Client serial) (msg.InfoAck ∷ msg.ResetOptions ∷ msg.SetOptions (wire_options_of s.config screen) ∷ []) s
+tell_options serial screen s =
+    route_each Own (Client serial)
+    (msg.InfoAck ∷ msg.ResetOptions ∷ msg.SetOptions (wire_options_of s.config screen) ∷ []) s

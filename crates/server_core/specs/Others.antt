@@ -14,8 +14,12 @@ is_other serial t = not (same_target t (Client serial))
 
 -- the joined ones, without that one
 abbrev pub others_among : ℕ → List Connection → List Target
-others_among serial connections = filter (is_other serial) (filter_map (λ (c : Connection). option_map (λ screen. Client c.serial) (screen_in c)) connections)
+others_among serial connections =
+    filter (is_other serial)
+    (filter_map (λ (c : Connection). option_map (λ screen. Client c.serial) (screen_in c))
+    connections)
 
 -- the connection of that index is told it, if it is one of them
 abbrev pub tell_other_at : ℕ → ℕ → Msg → State → State
-tell_other_at index serial m s = route_all Own (others_among serial (option_to_list (slice_get s.connections index))) m s
+tell_other_at index serial m s =
+    route_all Own (others_among serial (option_to_list (slice_get s.connections index))) m s

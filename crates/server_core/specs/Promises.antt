@@ -24,17 +24,19 @@ pub record IsStart (o : Origin) : Type 0 where
   pub script : HasScriptButtons o.script
 
 -- with that front of its log cleared
-pub record Runs (o : Origin) (latest : ℕ) (front : List ℕ) (core : ServerCore) (s : State) : Type 0 where
-  pub begins : IsStart o
-  pub reached : Reached o latest s
-  pub serves : Serves front core s
-  -- the laws of the machine
-  pub held : OnlyActiveHolds s
-  pub left_out : NothingIsLeftOut s
-  pub one_for_one : IsOneForOne (lines_run reached.happenings (start_of o)) s
+pub record Runs (o : Origin) (latest : ℕ) (front : List ℕ) (core : ServerCore) (s : State) : Type 0
+  where
+    pub begins : IsStart o
+    pub reached : Reached o latest s
+    pub serves : Serves front core s
+    -- the laws of the machine
+    pub held : OnlyActiveHolds s
+    pub left_out : NothingIsLeftOut s
+    pub one_for_one : IsOneForOne (lines_run reached.happenings (start_of o)) s
 
 -- it goes on running, by a happening that may come
 abbrev pub GoesOnRunning : Happening → ServerCore → ServerCore → Type 0
 GoesOnRunning h old new =
-    (o : Origin) (latest : ℕ) (front : List ℕ) (s : State) → Runs o latest front old s → IsAllowed latest s h
+    (o : Origin) (latest : ℕ) (front : List ℕ) (s : State) → Runs o latest front old s
+    → IsAllowed latest s h
     → Runs o (latest_after latest h) front new (step s h)

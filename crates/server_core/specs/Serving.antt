@@ -1,5 +1,5 @@
--- A server between two happenings: every message that came of a connection's bytes was heard, and nothing in them was
--- bad.
+-- A server between two happenings: every message that came of a connection's bytes was heard, and
+-- nothing in them was bad.
 use Rattle.std.specs.Prelude.{◌≡◌, ℕ, List, None}
 use Rattle.machine.specs.States.{State}
 use Rattle.machine.specs.Steps.{inbox_of}
@@ -7,7 +7,8 @@ use Rattle.server_core.specs.declared.server.ServerCore.{ServerCore}
 use Rattle.server_core.specs.Standing.{Beside, Stands, Leaves}
 
 abbrev pub Rests : Beside → Type 0
-Rests b = (serial : ℕ) → (b.given serial ≡ (inbox_of (b.received serial)).messages) × ((inbox_of (b.received serial)).bad ≡ None)
+Rests b = (serial : ℕ) → (b.given serial ≡ (inbox_of (b.received serial)).messages)
+    × ((inbox_of (b.received serial)).bad ≡ None)
 
 -- the text of the log up to that front was cleared
 pub record Serves (front : List ℕ) (core : ServerCore) (s : State) : Type 0 where

@@ -17,8 +17,8 @@ use Rattle.server_core.specs.declared.server.ServerCore.{ServerCore}
 use Rattle.server_core.specs.Targets.{meant, IsThere}
 use Rattle.server_core.specs.Lines.{line_of}
 
--- what is told beside the state: the text of the log that was cleared, and of each connection the bytes that came and
--- the messages that its reader gave of them
+-- what is told beside the state: the text of the log that was cleared, and of each connection the
+-- bytes that came and the messages that its reader gave of them
 pub record Beside : Type 0 where
   pub front : List ℕ
   pub received : ℕ → List ℕ
@@ -33,38 +33,46 @@ IsBlank serial b = (b.received serial ≡ []) × (b.given serial ≡ [])
 
 -- what tells the kept connections
 abbrev pub around : Beside → State → Surroundings
-around b s = record { routed = s.routed; received = b.received; given = b.given; limit = clip_limit s; count = length s.config.screens }
+around b s =
+    record {
+      routed = s.routed;
+      received = b.received;
+      given = b.given;
+      limit = clip_limit s;
+      count = length s.config.screens;
+    }
 
 -- the server is in that state, of which that holds
-pub record StandsWhere (P : State → Type 0) (b : Beside) (core : ServerCore) (s : State) : Type 0 where
-  -- what was given at the start
-  pub config : core.config ≡ s.config
-  pub primary : core.script.primary.screen.0 ≡ s.primary
-  pub primary_shape : core.primary_shape ≡ s.primary_shape
-  -- the script and the clock
-  pub lines : map line_of (drop core.ran core.script.lines) ≡ s.lines
-  pub ran : core.ran ≡ s.ran
-  pub sleeps_until : core.sleeps_until ≡ s.sleeps_until
-  pub has_quit : core.has_quit ≡ s.has_quit
-  pub at : core.at ≡ s.at
-  -- the connections
-  pub connections : AreFor (around b s) core.table s.connections
-  -- the cursor
-  pub active : meant core.active ≡ s.active
-  pub there : P s
-  pub cursor : point_of core.cursor ≡ s.cursor
-  pub sequence : core.sequence ≡ s.sequence
-  pub is_locked : core.is_locked ≡ s.is_locked
-  pub gate : gates.Remembers core.gate s
-  -- what the script holds down
-  pub pressed : pressed.Keeps core.pressed (inputs_of s)
-  -- what goes from screen to screen
-  pub clips : books.StandsAt core.clips s.clips
-  pub clips_of : core.clips.primary.0 ≡ s.primary
-  pub clips_limit : core.clips.limit ≡ clip_limit s
-  -- what was told
-  pub told : logs.StandsFor core.primary (messages_for machine.Primary s.routed)
-  pub log : b.front ++ core.log ≡ log_text s
+pub record StandsWhere (P : State → Type 0) (b : Beside) (core : ServerCore) (s : State) : Type 0
+  where
+    -- what was given at the start
+    pub config : core.config ≡ s.config
+    pub primary : core.script.primary.screen.0 ≡ s.primary
+    pub primary_shape : core.primary_shape ≡ s.primary_shape
+    -- the script and the clock
+    pub lines : map line_of (drop core.ran core.script.lines) ≡ s.lines
+    pub ran : core.ran ≡ s.ran
+    pub sleeps_until : core.sleeps_until ≡ s.sleeps_until
+    pub has_quit : core.has_quit ≡ s.has_quit
+    pub at : core.at ≡ s.at
+    -- the connections
+    pub connections : AreFor (around b s) core.table s.connections
+    -- the cursor
+    pub active : meant core.active ≡ s.active
+    pub there : P s
+    pub cursor : point_of core.cursor ≡ s.cursor
+    pub sequence : core.sequence ≡ s.sequence
+    pub is_locked : core.is_locked ≡ s.is_locked
+    pub gate : gates.Remembers core.gate s
+    -- what the script holds down
+    pub pressed : pressed.Keeps core.pressed (inputs_of s)
+    -- what goes from screen to screen
+    pub clips : books.StandsAt core.clips s.clips
+    pub clips_of : core.clips.primary.0 ≡ s.primary
+    pub clips_limit : core.clips.limit ≡ clip_limit s
+    -- what was told
+    pub told : logs.StandsFor core.primary (messages_for machine.Primary s.routed)
+    pub log : b.front ++ core.log ≡ log_text s
 
 -- whose active screen is there
 abbrev pub Stands : Beside → ServerCore → State → Type 0

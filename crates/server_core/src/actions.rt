@@ -26,7 +26,8 @@ const LAST_SEQUENCE: u32 = 4_294_967_295;
 impl ServerCore {
     /// Does the actions of a hotkey, one after another.
     pub(crate) fn act_all(&mut self, list: &[Action]) -> Result<(), OutOfMemory>
-        ensures { OnOk result ((o : Origin) → Leads self.old self.new (actions.act_all o list.now)) }
+        ensures { OnOk result
+            ((o : Origin) → Leads self.old self.new (actions.act_all o list.now)) }
     {
         for action in list {
             self.act(*action)?;
@@ -159,8 +160,8 @@ impl ServerCore {
         Ok(())
     }
 
-    // Enters the joined screen to which the edge on a side leads at the cursor, even where that edge
-    // is blocked, as a motion enters there.
+    // Enters the joined screen to which the edge on a side leads at the cursor, even where that
+    // edge is blocked, as a motion enters there.
     fn switch_toward(&mut self, side: Side) -> Result<(), OutOfMemory>
         ensures { OnOk result ((o : Origin) → Leads self.old self.new
             (actions.switch_toward o side)) }

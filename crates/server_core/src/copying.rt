@@ -24,8 +24,8 @@ fn marked(on: bool) -> u8
 }
 
 impl ServerCore {
-    /// The script copies bytes to a clipboard. Where clipboards are shared and there aren't too many
-    /// bytes, they become the clipboard's, every joined connection is told so, and the active
+    /// The script copies bytes to a clipboard. Where clipboards are shared and there aren't too
+    /// many bytes, they become the clipboard's, every joined connection is told so, and the active
     /// screen is sent them.
     pub(crate) fn copy(&mut self, clip: ClipId, bytes: &[u8]) -> Result<(), OutOfMemory>
         ensures { OnOk result (Leads self.old self.new (clipboards.copy clip bytes.now)) }

@@ -1,4 +1,5 @@
-//! Ends of connections: the stream of a client ended, a read or a write failed, or a bad frame came.
+//! Ends of connections: the stream of a client ended, a read or a write failed, or a bad frame
+//! came.
 
 ghost use Rattle.std.specs.Prelude.{◌≡◌, OnOk};
 ghost use Rattle.message_codec.specs.Inboxes.{Inbox};
@@ -15,8 +16,8 @@ use message_reader::BadFrame;
 use share_base::OutOfMemory;
 
 impl ServerCore {
-    /// Parts a connection for that cause, and then those that became too slow by it. One that is parting
-    /// already only loses the bytes that it didn't take.
+    /// Parts a connection for that cause, and then those that became too slow by it. One that is
+    /// parting already only loses the bytes that it didn't take.
     pub fn breaks(&mut self, cause: PartCause, serial: u64) -> Result<(), OutOfMemory>
         ensures { OnOk result (Leads self.old self.new (steps.breaks cause serial)) }
     {
@@ -25,8 +26,8 @@ impl ServerCore {
         Ok(())
     }
 
-    /// Parts a connection for that cause; one that is parting already loses the bytes that it didn't
-    /// take.
+    /// Parts a connection for that cause; one that is parting already loses the bytes that it
+    /// didn't take.
     pub fn part_or_drop(&mut self, cause: PartCause, serial: u64) -> Result<(), OutOfMemory>
         ensures { OnOk result (Leads self.old self.new (λ s. choose (lives s serial)
             (partings.part cause serial) (change serial steps.drops) s)) }

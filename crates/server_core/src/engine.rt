@@ -22,10 +22,10 @@ impl Engine for ServerCore {
 
     ghost departing = { departs_too };
 
-    /// Does what the machine does at that happening. A serial that joins is greater than all before,
-    /// and every other one is that of an open connection. On `OutOfMemory`, which also comes where one
-    /// connection would have given 2^63 bytes, the server is in no known state, and every later step
-    /// answers `OutOfMemory`.
+    /// Does what the machine does at that happening. A serial that joins is greater than all
+    /// before, and every other one is that of an open connection. On `OutOfMemory`, which also
+    /// comes where one connection would have given 2^63 bytes, the server is in no known state, and
+    /// every later step answers `OutOfMemory`.
     fn step(&mut self, happening: Happening<'_>) -> Result<(), OutOfMemory>
         ensures steps { OnOk result (Steps serves_in self.old self.new (meaning happening.entry)) }
         ensures laws { OnOk result
@@ -102,8 +102,8 @@ impl Engine for ServerCore {
         !self.has_quit
     }
 
-    /// Returns the least serial of a connection that is to be closed now: it is parting, and nothing
-    /// is to be taken any more, or its time is over.
+    /// Returns the least serial of a connection that is to be closed now: it is parting, and
+    /// nothing is to be taken any more, or its time is over.
     fn closing(&self) -> Option<u64>
         ensures { Reads serves_in self.now result machine.closing }
     {
@@ -117,8 +117,8 @@ impl Engine for ServerCore {
         self.is_over()
     }
 
-    /// Returns the moment at which something is due, in milliseconds; 18,446,744,073,709,551,615 for
-    /// never.
+    /// Returns the moment at which something is due, in milliseconds; 18,446,744,073,709,551,615
+    /// for never.
     fn due(&self) -> u64
         ensures { Reads serves_in self.now result machine.due }
     {

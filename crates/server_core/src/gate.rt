@@ -11,7 +11,8 @@ use edge_cross::Waiting;
 use share_base::{OutOfMemory, Side};
 
 impl ServerCore {
-    /// Asks the gate whether a motion may leave the active screen on `side`, and returns its answer.
+    /// Asks the gate whether a motion may leave the active screen on `side`, and returns its
+    /// answer.
     pub(crate) fn ask_gate(&mut self, side: Side) -> bool
         ensures passes { Reads self.old result (λ s. calls.passes s side) }
         ensures hears { Leads self.old self.new (calls.hear_ask side) }
@@ -19,8 +20,8 @@ impl ServerCore {
         self.gate.ask(self.at.moment(), side)
     }
 
-    /// Returns the moment, in milliseconds, at which the gate's wait is over; `None` if it waits for
-    /// no edge.
+    /// Returns the moment, in milliseconds, at which the gate's wait is over; `None` if it waits
+    /// for no edge.
     pub(crate) fn gate_due(&self) -> Option<u64>
         ensures { Reads self.now result (λ s. option_map (λ w. w.due) (calls.waiting s)) }
     {
@@ -45,8 +46,8 @@ impl ServerCore {
         Ok(())
     }
 
-    /// Leaves the active screen on the side of a wait, at the cursor, if there is a way out. The gate
-    /// isn't asked, and its wait ends.
+    /// Leaves the active screen on the side of a wait, at the cursor, if there is a way out. The
+    /// gate isn't asked, and its wait ends.
     fn try_edge(&mut self, wait: Waiting) -> Result<(), OutOfMemory>
         ensures { OnOk result (Leads self.old self.new (timers.try wait)) }
     {

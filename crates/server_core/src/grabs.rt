@@ -33,8 +33,8 @@ impl ServerCore {
         self.config.globals().clipboard_sharing_size * SHARING_UNIT
     }
 
-    /// The connection of that serial takes a clipboard, where clipboards are shared and its sequence
-    /// is neither below the kept one nor above the server's. All others hear of it.
+    /// The connection of that serial takes a clipboard, where clipboards are shared and its
+    /// sequence is neither below the kept one nor above the server's. All others hear of it.
     pub(crate) fn grab(&mut self, clip: ClipId, serial: u64, seq: u32) -> Result<(), OutOfMemory>
         ensures { OnOk result (Leads self.old self.new (clipboards.grab clip serial seq)) }
     {
@@ -48,8 +48,8 @@ impl ServerCore {
         Ok(())
     }
 
-    // Takes a clipboard for the screen of a connection, where the sequence counts, and tells whether
-    // it did.
+    // Takes a clipboard for the screen of a connection, where the sequence counts, and tells
+    // whether it did.
     fn take_clip(&mut self, clip: ClipId, serial: u64, seq: u32) -> bool
         ensures counts { Reads self.old result
             (λ s. rules.grab_counts seq s.sequence (clipboards.clip s clip)) }
@@ -104,8 +104,8 @@ impl ServerCore {
     }
 
     /// Takes a whole clipboard of at most 4,194,304 bytes from the connection of that serial, where
-    /// clipboards are shared, its screen is the owner, and its sequence is neither below the kept one
-    /// nor above the server's. The active screen is sent it at once.
+    /// clipboards are shared, its screen is the owner, and its sequence is neither below the kept
+    /// one nor above the server's. The active screen is sent it at once.
     pub(crate) fn whole(
         &mut self,
         clip: ClipId,
@@ -128,8 +128,8 @@ impl ServerCore {
         Ok(())
     }
 
-    // Keeps a whole clipboard of the screen of a connection, where the owner and the sequence count,
-    // and tells whether they did.
+    // Keeps a whole clipboard of the screen of a connection, where the owner and the sequence
+    // count, and tells whether they did.
     fn keep_whole(
         &mut self,
         clip: ClipId,

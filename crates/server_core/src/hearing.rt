@@ -14,8 +14,8 @@ use message_codec::{ClipMark, Msg};
 use share_base::{ClipId, OutOfMemory, ScreenNo};
 
 impl ServerCore {
-    /// Hears a message of the connection of that serial, as its phase has it. Connections of which a
-    /// frame was left out part then.
+    /// Hears a message of the connection of that serial, as its phase has it. Connections of which
+    /// a frame was left out part then.
     pub fn hear(&mut self, serial: u64, message: &Msg) -> Result<(), OutOfMemory>
         ensures { OnOk result (Leads self.old self.new (hearing.hear serial message.now)) }
     {
@@ -134,8 +134,8 @@ impl ServerCore {
         }
     }
 
-    // Hears a part of a clipboard of a connection that lives, and takes the whole that it ends, if it
-    // does. No whole is longer than the limit.
+    // Hears a part of a clipboard of a connection that lives, and takes the whole that it ends, if
+    // it does. No whole is longer than the limit.
     fn hear_part(
         &mut self,
         serial: u64,

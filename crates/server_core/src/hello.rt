@@ -17,9 +17,9 @@ use message_codec::Msg;
 use share_base::{OutOfMemory, ScreenNo, ScreenSet};
 
 impl ServerCore {
-    /// Hears the answer to the greeting, with the version and the name of a screen. The connection is
-    /// asked for the information of the screen, or it parts: for another version, for a name that no
-    /// screen has, and for a screen that is used.
+    /// Hears the answer to the greeting, with the version and the name of a screen. The connection
+    /// is asked for the information of the screen, or it parts: for another version, for a name
+    /// that no screen has, and for a screen that is used.
     pub(crate) fn hear_hello(
         &mut self,
         serial: u64,
@@ -56,8 +56,8 @@ impl ServerCore {
         Ok(())
     }
 
-    /// Returns the screens that are used: the primary, and those of all connections that were asked or
-    /// are joined.
+    /// Returns the screens that are used: the primary, and those of all connections that were asked
+    /// or are joined.
     pub(crate) fn used_screens(&self) -> ScreenSet
         ensures { (screen : ℕ) → Reads self.now (has result screen)
             (λ s. hello.is_used s screen) }

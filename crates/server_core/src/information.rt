@@ -80,7 +80,8 @@ impl ServerCore {
 
     // Logs that a connection joined as a screen of the configuration.
     fn log_join(&mut self, serial: u64, screen: ScreenNo) -> Result<(), OutOfMemory>
-        ensures { OnOk result (LeadsWhere (λ s. screen.0 < length s.config.screens) self.old self.new
+        ensures { OnOk result
+            (LeadsWhere (λ s. screen.0 < length s.config.screens) self.old self.new
             (λ s. logs (Join serial (information.name_of s screen.0) ∷ []) s)) }
     {
         if screen.0 >= self.config.count() {
@@ -110,8 +111,8 @@ impl ServerCore {
     }
 
     /// Hears a further information of a joined screen, which was counted as heard: the screen has
-    /// that shape, in which the cursor stays where it is there; or the connection parts, for a shape
-    /// that no screen has.
+    /// that shape, in which the cursor stays where it is there; or the connection parts, for a
+    /// shape that no screen has.
     pub(crate) fn hear_later_info(
         &mut self,
         serial: u64,

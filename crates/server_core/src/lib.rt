@@ -1,8 +1,8 @@
 //! The server over happenings: connections, their bytes and the clock in, frames and the log out.
 //!
-//! It owns what the server keeps, and which state of the machine that is (`specs/Standing.antt`). Each of
-//! its rules is the machine's rule of the same name. It may know everything below it, but no socket, and
-//! no time but the moment that it is told.
+//! It owns what the server keeps, and which state of the machine that is (`specs/Standing.antt`).
+//! Each of its rules is the machine's rule of the same name. It may know everything below it, but
+//! no socket, and no time but the moment that it is told.
 #![tactic(auto)]
 
 mod accepting;

@@ -32,7 +32,8 @@ impl ServerCore {
     /// Logs the contents that the primary is given for a clipboard. On `OutOfMemory` the log is
     /// unchanged.
     pub fn log_clip(&mut self, clip: ClipId, bytes: &[u8]) -> Result<(), OutOfMemory>
-        ensures { OnOk result (Leads self.old self.new (logs (Local (line.Clip clip bytes.now) ∷ []))) }
+        ensures { OnOk result
+            (Leads self.old self.new (logs (Local (line.Clip clip bytes.now) ∷ []))) }
     {
         self.log.local_clip(clip, bytes)?;
         Ok(())

@@ -1,5 +1,5 @@
-//! The bytes of clients: a piece is read, the messages that it ends are heard one by one, and a bad frame
-//! after them parts the connection.
+//! The bytes of clients: a piece is read, the messages that it ends are heard one by one, and a bad
+//! frame after them parts the connection.
 
 ghost use Rattle.std.specs.Prelude.{◌≡◌, ◌+◌, ◌≤◌, ◌<◌, ◌^◌, ℕ, List, length, OnOk};
 ghost use Rattle.machine.specs.States.{State};
@@ -16,12 +16,14 @@ use share_base::OutOfMemory;
 
 impl ServerCore {
     /// Hears the next piece of the bytes of a connection, which are fewer than 2^63 in all. Of a
-    /// connection that is parting nothing is read. After `OutOfMemory` some of the piece may be heard.
+    /// connection that is parting nothing is read. After `OutOfMemory` some of the piece may be
+    /// heard.
     pub fn got(&mut self, serial: u64, piece: &[u8]) -> Result<(), OutOfMemory>
         requires { given_by self.old serial + length piece.now < 2 ^ 63 }
         ensures serves { OnOk result ((front : List ℕ) (s : State) → Serves front self.old s
             → Serves front self.new (steps.got serial piece.now s)) }
-        ensures grows { OnOk result ((front : List ℕ) (s : State) → Serves front self.old s → (n : ℕ)
+        ensures grows { OnOk result ((front : List ℕ) (s : State) → Serves front self.old s
+            → (n : ℕ)
             → given_by self.new n ≤ given_by self.old n + more_at serial (length piece.now) n) }
     {
         let Some(connection) = self.table.get(serial) else {

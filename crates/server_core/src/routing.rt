@@ -14,11 +14,13 @@ use message_codec::Msg;
 use share_base::OutOfMemory;
 
 impl ServerCore {
-    /// Tells a target that is there a message, and logs what the primary prints or the frame that is
-    /// queued.
+    /// Tells a target that is there a message, and logs what the primary prints or the frame that
+    /// is queued.
     pub fn route(&mut self, target: Target, message: &Msg) -> Result<(), OutOfMemory>
         requires { length (body_of message.now) ≤ BODY_LIMIT }
-        ensures { OnOk result ((origin : Origin) → LeadsWhere (λ s. IsThere s (meant target)) self.old self.new (route origin (meant target) message.now)) }
+        ensures { OnOk result
+            ((origin : Origin) → LeadsWhere (λ s. IsThere s (meant target)) self.old self.new
+            (route origin (meant target) message.now)) }
     {
         match target {
             Target::Primary => self.tell_primary(message),
@@ -27,7 +29,9 @@ impl ServerCore {
     }
 
     fn tell_primary(&mut self, message: &Msg) -> Result<(), OutOfMemory>
-        ensures { OnOk result ((origin : Origin) → LeadsWhere (λ s. IsThere s Primary) self.old self.new (route origin Primary message.now)) }
+        ensures { OnOk result
+            ((origin : Origin) → LeadsWhere (λ s. IsThere s Primary) self.old self.new
+            (route origin Primary message.now)) }
     {
         self.primary.told(message, &mut self.log)?;
         Ok(())
@@ -35,7 +39,9 @@ impl ServerCore {
 
     fn send(&mut self, serial: u64, message: &Msg) -> Result<(), OutOfMemory>
         requires { length (body_of message.now) ≤ BODY_LIMIT }
-        ensures { OnOk result ((origin : Origin) → LeadsWhere (λ s. IsThere s (Client serial)) self.old self.new (route origin (Client serial) message.now)) }
+        ensures { OnOk result
+            ((origin : Origin) → LeadsWhere (λ s. IsThere s (Client serial)) self.old self.new
+            (route origin (Client serial) message.now)) }
     {
         self.table.send(serial, message)?;
         if self.table.is_slow(serial) {

@@ -11,8 +11,8 @@ use screen_config::Config;
 use screen_crossing::SwitchGate;
 use server_log::{Log, Primary};
 
-/// A server: its configuration and its script, the connections, the active screen with the cursor, what
-/// the script holds down, the clipboards, and the log.
+/// A server: its configuration and its script, the connections, the active screen with the cursor,
+/// what the script holds down, the clipboards, and the log.
 #[derive(Drop)]
 pub struct ServerCore {
     pub(crate) config: Config,

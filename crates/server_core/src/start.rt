@@ -40,9 +40,9 @@ fn first_shape(script: &Script) -> Shape
 }
 
 impl ServerCore {
-    /// Begins a server at that moment, in milliseconds; a moment above `LAST_MOMENT` counts as that one,
-    /// here and in every call. Every screen of the script is one of the configuration. The primary screen
-    /// is active, with the cursor at its middle, and nothing is down.
+    /// Begins a server at that moment, in milliseconds; a moment above `LAST_MOMENT` counts as that
+    /// one, here and in every call. Every screen of the script is one of the configuration. The
+    /// primary screen is active, with the cursor at its middle, and nothing is down.
     pub fn new(config: Config, script: Script, now: u64) -> Result<ServerCore, OutOfMemory>
         requires { ScreensBelow (length config.screens) script }
         ensures stands { IfOk result

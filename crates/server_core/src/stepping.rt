@@ -49,8 +49,8 @@ impl ServerCore {
         }
     }
 
-    // Hears the next piece of the bytes of a connection. `OutOfMemory` comes also where it would have
-    // given 2^63 bytes.
+    // Hears the next piece of the bytes of a connection. `OutOfMemory` comes also where it would
+    // have given 2^63 bytes.
     fn get(&mut self, serial: u64, piece: &[u8]) -> Result<(), OutOfMemory>
         ensures { OnOk result ((front : List ℕ) (s : State) → Serves front self.old s
             → Serves front self.new (steps.got serial piece.now s)) }

@@ -9,8 +9,8 @@ ghost use Rattle.server_core.specs.Taking.{queued_in, taken_in, untaken_by, queu
 use crate::server::ServerCore;
 
 impl ServerCore {
-    /// Returns the bytes that a connection may still take, from the front of its queue: empty where all
-    /// were taken or the rest was dropped, and where no such connection is open.
+    /// Returns the bytes that a connection may still take, from the front of its queue: empty where
+    /// all were taken or the rest was dropped, and where no such connection is open.
     pub fn queued(&self, serial: u64) -> &[u8]
         ensures kept { result.now ≡ queued_in self.now serial }
         ensures untaken { Reads self.now result.now (λ s. untaken_by s serial) }
@@ -21,7 +21,8 @@ impl ServerCore {
         }
     }
 
-    /// Notes that a connection took the first `count` of those bytes. Fewer than 2^63 are taken in all.
+    /// Notes that a connection took the first `count` of those bytes. Fewer than 2^63 are taken in
+    /// all.
     pub fn takes(&mut self, serial: u64, count: usize)
         requires there { count ≤ length (queued_in self.old serial) }
         requires fits { taken_in self.old serial + count < 2 ^ 63 }

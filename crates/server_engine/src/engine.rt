@@ -9,11 +9,11 @@ ghost use Rattle.server_engine.specs.Engines.{meaning, Steps, ClosesParting, Rea
 use crate::happening::Happening;
 use share_base::OutOfMemory;
 
-/// A server over happenings. Each call leads from every state of the machine that the engine serves to
-/// the machine's next one, or reads that state.
+/// A server over happenings. Each call leads from every state of the machine that the engine serves
+/// to the machine's next one, or reads that state.
 ///
-/// An engine keeps the text of its log until that is cleared. After a call that answers `OutOfMemory` it
-/// serves no state that is known.
+/// An engine keeps the text of its log until that is cleared. After a call that answers
+/// `OutOfMemory` it serves no state that is known.
 pub trait Engine {
     /// With that front of its log cleared, it is in that state, and the active screen is joined.
     ghost serves: { Self → List ℕ → State → Type 0 };
@@ -38,7 +38,8 @@ pub trait Engine {
         ensures serves { OnOk result (ClosesParting serves self.old self.new serial) }
         ensures departs { OnOk result (Steps departs self.old self.new (Closed serial)) };
 
-    /// Returns the bytes that a connection is to take next, first to last: none if it takes no more.
+    /// Returns the bytes that a connection is to take next, first to last: none if it takes no
+    /// more.
     fn queued(&self, serial: u64) -> &[u8]
         ensures value { result.now ≡ offered self.now serial }
         ensures offers { Offers serves self.now serial result.now };
@@ -63,7 +64,8 @@ pub trait Engine {
     fn over(&self) -> bool
         ensures { Reads serves self.now result machine.is_over };
 
-    /// Returns the moment at which something is due, in milliseconds; the last of 64 bits for never.
+    /// Returns the moment at which something is due, in milliseconds; the last of 64 bits for
+    /// never.
     fn due(&self) -> u64
         ensures { Reads serves self.now result machine.due };
 

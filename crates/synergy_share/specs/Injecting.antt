@@ -21,30 +21,46 @@ use Rattle.synergy_share.specs.Endings.{status_of, status_by}
 use Rattle.synergy_share.specs.Cores.{IsDone, Prints, Keeps}
 
 -- the client reads a server's messages wherever they stand, and heard these
-pub record Injected (core : ClientCore) (w : Way) (stream : List ℕ) (messages : List Msg) (taken : List ℕ) : Type 0 where
+pub record Injected (core : ClientCore) (w : Way) (stream : List ℕ) (messages : List Msg)
+    (taken : List ℕ) : Type 0 where
   pub role_is : core.reader.role ≡ role.Observer ends.Server
   pub way_is : w ≡ injecting
   pub stands : Injects core stream messages taken
 
 -- ---- what it keeps is what a command wants to know
 
-status_map : (o : Option (Outcome Stop)) → option_map status_of (option_map end_by o) ≡ option_map status_by o
+status_map : (o : Option (Outcome Stop))
+    → option_map status_of (option_map end_by o) ≡ option_map status_by o
 status_map None = refl
 status_map (Some to) = refl
 
-pub done_so : (reader : Reader) (stream : List ℕ) (messages : List Msg) (done : Option ClientEnd) (v : Verdict reader stream) → IsHeard done v messages → IsDone injecting (option_map status_of done) v messages
-done_so reader stream messages None v h = (ap (option_map status_of) h.0 ∙ status_map (outcome stop_of v), h.1)
+pub done_so : (reader : Reader) (stream : List ℕ) (messages : List Msg) (done : Option ClientEnd)
+    (v : Verdict reader stream) → IsHeard done v messages
+    → IsDone injecting (option_map status_of done) v messages
+done_so reader stream messages None v h =
+    (ap (option_map status_of) h.0 ∙ status_map (outcome stop_of v), h.1)
 done_so reader stream messages (Some end.OutOfMemory) v h = h
-done_so reader stream messages (Some e) v h = (ap (option_map status_of) h.0 ∙ status_map (outcome stop_of v), h.1)
+done_so reader stream messages (Some e) v h =
+    (ap (option_map status_of) h.0 ∙ status_map (outcome stop_of v), h.1)
 
-pub injected_keeps : (core : ClientCore) (w : Way) (stream : List ℕ) (messages : List Msg) (taken : List ℕ) → Injected core w stream messages taken → Keeps w (lines_in core) (option_map status_of core.done) core.reader.total stream messages taken
+pub injected_keeps : (core : ClientCore) (w : Way) (stream : List ℕ) (messages : List Msg)
+    (taken : List ℕ) → Injected core w stream messages taken
+    → Keeps w (lines_in core) (option_map status_of core.done) core.reader.total stream messages
+    taken
 injected_keeps core w stream messages taken k =
     let done = option_map status_of core.done in
-    let found : Prints injecting (reader_of core.reader.role) (lines_in core) done stream messages taken = record {
+    let found : Prints injecting (reader_of core.reader.role) (lines_in core) done stream messages
+    taken = record {
       verdict = k.stands.verdict;
-      ended = done_so (reader_of core.reader.role) stream messages core.done k.stands.verdict k.stands.heard;
+      ended = done_so (reader_of core.reader.role) stream messages core.done k.stands.verdict
+          k.stands.heard;
       lines_are = k.stands.stands.hears.shows.printed;
     } in
-    let prints : Prints injecting (plain ends.Server) (lines_in core) done stream messages taken = subst (λ (r : Reader). Prints injecting r (lines_in core) done stream messages taken) (ap reader_of k.role_is) found in
-    let keeps : Keeps injecting (lines_in core) done core.reader.total stream messages taken = record { prints = prints; total_is = k.stands.stands.total } in
-    subst (λ (v : Way). Keeps v (lines_in core) done core.reader.total stream messages taken) (sym k.way_is) keeps
+    let prints : Prints injecting (plain ends.Server) (lines_in core) done stream messages
+    taken = subst
+    (λ (r : Reader). Prints injecting r (lines_in core) done stream messages taken)
+    (ap reader_of k.role_is) found in
+    let keeps : Keeps injecting (lines_in core) done core.reader.total stream messages
+    taken = record { prints = prints; total_is = k.stands.stands.total } in
+    subst (λ (v : Way). Keeps v (lines_in core) done core.reader.total stream messages taken)
+    (sym k.way_is) keeps

@@ -33,10 +33,21 @@ abbrev pub given_by : (List ℕ → Option (List ℕ)) → List ℕ → List ℕ
 given_by told config script trace =
     record { config = told config; script = told script; trace = told trace }
 
--- each end with its cause: there is no configuration, or then no script, or then no trace, and nothing was written and
--- no further file read; or the server of the three ran over the trace and ended so
-pub data Replays (end : Status) (given : Given) (calls calls' : ℕ) (old new : SinkState) : Type 0 where
-  no_config : NoConfig end given.config → new ≡ old → calls' ≡ one_more calls → Replays end given calls calls' old new
-  no_script : (config : Configuration) → HasConfig given.config config → NoScript config end given.script → new ≡ old → calls' ≡ one_more (one_more calls) → Replays end given calls calls' old new
-  no_trace : (config : Configuration) (script : ScriptText) → HasConfig given.config config → HasScript config given.script script → NoTrace end given.trace → new ≡ old → calls' ≡ one_more (one_more (one_more calls)) → Replays end given calls calls' old new
-  ran : (config : Configuration) (script : ScriptText) (trace : List TraceLine) (ended : ServeEnd) → HasConfig given.config config → HasScript config given.script script → HasTrace given.trace trace → Replayed config script trace ended old new → end ≡ status_of_run ended → calls' ≡ one_more (one_more (one_more calls)) → Replays end given calls calls' old new
+-- each end with its cause: there is no configuration, or then no script, or then no trace, and
+-- nothing was written and no further file read; or the server of the three ran over the trace and
+-- ended so
+pub data Replays (end : Status) (given : Given) (calls calls' : ℕ) (old new : SinkState) : Type 0
+  where
+    no_config : NoConfig end given.config → new ≡ old → calls' ≡ one_more calls
+        → Replays end given calls calls' old new
+    no_script : (config : Configuration) → HasConfig given.config config
+        → NoScript config end given.script → new ≡ old → calls' ≡ one_more (one_more calls)
+        → Replays end given calls calls' old new
+    no_trace : (config : Configuration) (script : ScriptText) → HasConfig given.config config
+        → HasScript config given.script script → NoTrace end given.trace → new ≡ old
+        → calls' ≡ one_more (one_more (one_more calls)) → Replays end given calls calls' old new
+    ran : (config : Configuration) (script : ScriptText) (trace : List TraceLine) (ended : ServeEnd)
+        → HasConfig given.config config → HasScript config given.script script
+        → HasTrace given.trace trace → Replayed config script trace ended old new
+        → end ≡ status_of_run ended → calls' ≡ one_more (one_more (one_more calls))
+        → Replays end given calls calls' old new

@@ -106,10 +106,10 @@ pub fn run_show<S: Source, K: Sink>(alloc: Global, end: End, input: &mut S, out:
 ///
 /// It ends as `Ok` at `CBYE`; as `Refused` at `EICV`, `EBSY`, `EUNK` or `EBAD`; as `BadFrames` at
 /// the first bad frame, or with the reason `cut` where the input ends inside one; as `Lost(Ended)`
-/// where the input ends between frames; as `InputTooLong` where a byte after the first 1,073,741,824 was read. At each end, `ReadFault` and
-/// `OutOfMemory` too, the lines of the messages before it are written, and then the ups of all that
-/// is down; at `WriteFault` a front of these is. No read is made once one answered the end, or once
-/// the bytes read decide the end.
+/// where the input ends between frames; as `InputTooLong` where a byte after the first
+/// 1,073,741,824 was read. At each end, `ReadFault` and `OutOfMemory` too, the lines of the
+/// messages before it are written, and then the ups of all that is down; at `WriteFault` a front of
+/// these is. No read is made once one answered the end, or once the bytes read decide the end.
 pub fn run_inject<S: Source, K: Sink>(alloc: Global, input: &mut S, out: &mut K) -> Status
     requires { NotSet (S.state input.old).ended }
     ensures injects { Reads injecting result (S.state input.old) (S.state input.new)

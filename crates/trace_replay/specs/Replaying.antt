@@ -1,4 +1,5 @@
--- A run of the server over a trace: the acts that are due and that the trace answers, and the log over them.
+-- A run of the server over a trace: the acts that are due and that the trace answers, and the log
+-- over them.
 use Rattle.std.specs.Prelude.{◌≡◌, ℕ, ◌+◌, Bool, true, false, List, [], ◌++◌, count_by}
 use Rattle.share_base.specs.Writing.{SinkState}
 use Rattle.screen_config.specs.Configurations.{Configuration}
@@ -35,9 +36,10 @@ is_turn l = false
 abbrev pub turns_of : List TraceLine → ℕ
 turns_of trace = count_by is_turn trace + 1
 
--- the acts of the turns and then those of the closings were due, the trace answered each of them, and the sink got
--- the log over them; where the sink failed or memory ran out, a front of it
-pub record Replayed (config : Configuration) (script : ScriptText) (trace : List TraceLine) (end : ServeEnd) (old new : SinkState) : Type 0 where
+-- the acts of the turns and then those of the closings were due, the trace answered each of them,
+-- and the sink got the log over them; where the sink failed or memory ran out, a front of it
+pub record Replayed (config : Configuration) (script : ScriptText) (trace : List TraceLine)
+    (end : ServeEnd) (old new : SinkState) : Type 0 where
   pub run : List Act
   pub leaves : List Act
   pub judge : Judge

@@ -27,8 +27,8 @@ fn turns_of(trace: &Trace) -> u64
     turns as u64 + 1
 }
 
-/// Runs a server of that configuration and script over the trace, and writes its log to `out`. Every
-/// screen of the script is one of the configuration.
+/// Runs a server of that configuration and script over the trace, and writes its log to `out`.
+/// Every screen of the script is one of the configuration.
 ///
 /// It ends as `Quit` where the script has quit and every connection was closed, and as `Over` where
 /// the trace ended before that; as `WriteFault` where the output failed, and has a front of the log
