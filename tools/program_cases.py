@@ -6,7 +6,10 @@ The expected values follow docs/protocol.md and docs/configuration.md; none is c
 import pathlib
 from typing import NamedTuple
 
-import replay_rows
+import clipboard_rows
+import hotkey_rows
+import limit_rows
+import machine_rows
 
 EXAMPLES = pathlib.Path(__file__).resolve().parent.parent / "examples"
 # How the command of an example ends, unless with 0 and no line.
@@ -168,8 +171,8 @@ def examples():
 
 
 def replays():
-    """Each row of replay_rows.py."""
-    for row in replay_rows.ROWS:
+    """Each row of the tables of rows."""
+    for row in [*machine_rows.ROWS, *hotkey_rows.ROWS, *clipboard_rows.ROWS, *limit_rows.ROWS]:
         files = [("conf", row.config), ("script", row.script), ("trace", row.trace)]
         words = ["replay", *(name for name, _ in files)]
         yield Case(f"replay: {row.name}", words, row.code, row.line, row.log, files=files)
