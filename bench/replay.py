@@ -58,6 +58,31 @@ def compare(title, what, count, texts):
     print(f"    twice the size takes {full.processor / max(half.processor, 1e-6):.2f} times as long", flush=True)
 
 
+# ---- texts that are read and not run
+
+
+def filled(lines, size):
+    """The lines over and over, that many bytes of them and no more."""
+    return lines * (size // len(lines))
+
+
+def unrun_script(size):
+    """A script of that size whose lines wait for a screen that never joins."""
+    return DESKS, BEGIN + filled("key down 61374 200\nkey repeat 65535 200\nkey up 200\nmotion -12345 32767\n", size), "turn 0\n"
+
+
+def unread_trace(size):
+    """A trace of that size with long lines for a connection that never joins."""
+    return DESKS, BEGIN, "turn 0\n" + filled(f"got 1 {'5a' * 262_144}\n", size)
+
+
+def compare_reading(title, small, large, texts):
+    runs = [replayed(*texts(size)) for size in (small, large)]
+    show(title, large, "bytes", runs[1])
+    less, more = (max(run.processor, 1e-6) for run in runs)
+    print(f"    {large // small} times the size takes {more / less:.1f} times as long", flush=True)
+
+
 # ---- one client
 
 
@@ -139,6 +164,8 @@ def main():
         print("the program isn't built: run ./synergy-share once", file=sys.stderr)
         return 1
     show("nothing", 0, "lines", replayed(DESKS, BEGIN, ""))
+    compare_reading("reading a script of 16 MiB", MIB, 16 * MIB - MIB // 64, unrun_script)
+    compare_reading("reading a trace of 64 MiB", 4 * MIB, 64 * MIB - MIB, unread_trace)
     compare("a script's lines, one client", "lines", LINES, script_lines)
     compare("turns of a trace, one client", "turns", TURNS, trace_turns)
     turns = TURNS // 50
