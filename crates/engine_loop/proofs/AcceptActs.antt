@@ -111,7 +111,7 @@ module _ {E H : Type 0} (serves : E → List ℕ → State → Type 0) (state : 
       → Stage serves state leads r core' hub' watch' (Is (λ fs s. at_accepts fs s (left - 1)))
   new-accepts serial fits calls opens steps =
       let is : serial ≡ st.judge.latest + 1 = next_is serial fits in
-      accept-more serves state leads r core core' hub hub' watch watch' (accepted.New serial) left some trans (record { calls = calls; led = led; calm = refl; goes = refl }) st is is_now
+      accept-more serves state leads r core core' hub hub' watch watch' (accepted.New serial) left some trans (record { calls = calls; led = led; calm = refl; goes = refl; answered = refl }) st is is_now
       (sym (opens-flags watch watch' serial (total st.judge.state.routed) opens (none-queued r.origin st.judge.latest st.judge.state serial st.reached is))) (opens-seen watch watch' serial (total st.judge.state.routed) opens st.seen) (opens-serials watch watch' serial opens)
       (moves-joined r.origin st.judge.latest st.judge.state serial st.reached is)
       (steps r.origin st.judge.latest r.front st.judge.state st.reached (omega (arith, is)) st.served) refl
@@ -119,15 +119,15 @@ module _ {E H : Type 0} (serves : E → List ℕ → State → Type 0) (state : 
   pub new-cuts : (serial : ℕ) → FitsAccept (accepted.New serial) (state hub).latest → HubCalls (Some (act.Accept (accepted.New serial))) (state hub) (state hub') → Cut state leads r hub'
   new-cuts serial fits calls =
       let is : serial ≡ st.judge.latest + 1 = next_is serial fits in
-      accept-cut serves state leads r core hub hub' watch (accepted.New serial) left some trans (record { calls = calls; led = led; calm = refl; goes = refl }) st is is_now
+      accept-cut serves state leads r core hub hub' watch (accepted.New serial) left some trans (record { calls = calls; led = led; calm = refl; goes = refl; answered = refl }) st is is_now
       (moves-joined r.origin st.judge.latest st.judge.state serial st.reached is)
 
   pub none-accepts : HubCalls (Some (act.Accept accepted.NotNow)) (state hub) (state hub') → watch' ≡ record { listens = false; streams = watch.streams }
       → Stage serves state leads r core hub' watch' (Is (λ fs s. at_accepts fs s (left - 1)))
-  none-accepts calls is = accept-more serves state leads r core core hub hub' watch watch' accepted.NotNow left some trans (record { calls = calls; led = led; calm = refl; goes = refl }) st tt is_now
+  none-accepts calls is = accept-more serves state leads r core core hub hub' watch watch' accepted.NotNow left some trans (record { calls = calls; led = led; calm = refl; goes = refl; answered = refl }) st tt is_now
       (ap (flags_of (total st.judge.state.routed)) (sym is)) (subst (λ (w : Watch). AreSeen (total st.judge.state.routed) w.streams.items) (sym is) st.seen) (ap serials_in is) (moves-none r.origin st.judge.latest st.judge.state (act.Accept accepted.NotNow) refl refl refl st.reached) st.served refl
 
   pub failed-accepts : HubCalls (Some (act.Accept accepted.Failed)) (state hub) (state hub') → watch' ≡ record { listens = false; streams = watch.streams }
       → Stage serves state leads r core hub' watch' (Is (λ fs s. at_accepts fs s (left - 1)))
-  failed-accepts calls is = accept-more serves state leads r core core hub hub' watch watch' accepted.Failed left some trans (record { calls = calls; led = led; calm = refl; goes = refl }) st tt is_now
+  failed-accepts calls is = accept-more serves state leads r core core hub hub' watch watch' accepted.Failed left some trans (record { calls = calls; led = led; calm = refl; goes = refl; answered = refl }) st tt is_now
       (ap (flags_of (total st.judge.state.routed)) (sym is)) (subst (λ (w : Watch). AreSeen (total st.judge.state.routed) w.streams.items) (sym is) st.seen) (ap serials_in is) (moves-none r.origin st.judge.latest st.judge.state (act.Accept accepted.Failed) refl refl refl st.reached) st.served refl

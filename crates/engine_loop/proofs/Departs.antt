@@ -18,7 +18,7 @@ use Rattle.engine_loop.specs.declared.serve_end.ServeEnd.{ServeEnd}
 use Rattle.engine_loop.specs.declared.serve_end.ServeEnd.TheVariants as ends
 use Rattle.engine_loop.specs.declared.watch.Watch.{Watch}
 use Rattle.engine_loop.specs.Watches.{serials_in}
-use Rattle.engine_loop.specs.Stages.{Course, Stage, Made, waits_in, known_with}
+use Rattle.engine_loop.specs.Stages.{Course, GoesWell, Stage, Made, waits_in, known_with}
 use Rattle.engine_loop.specs.Turns.{Wrote, LogsOn, with_front}
 use Rattle.engine_loop.specs.Ends.{Departing, LeftShort, EndsBy, AfterTurns, GoesOn, is_failure}
 use Rattle.engine_loop.specs.Serving.{Serves, HubCounts, LogsTo, IsWhole, IsIn}
@@ -38,7 +38,7 @@ counted false old new h = omega (arith, h)
 
 -- no act was made
 pub made-none : (first : Judge) (hub : HubState) → Made first hub hub [] first
-made-none first hub = record { follows = tt; judges = refl; known = known-nil hub.acts }
+made-none first hub = record { follows = tt; judges = refl; answered = refl; known = known-nil hub.acts }
 
 -- ---- where the closings begin
 
@@ -61,10 +61,10 @@ pub record IsToLeave {E H : Type 0} (departs : E → List ℕ → State → Type
 abbrev pub Departs : {E : Type 0} → (E → List ℕ → State → Type 0) → (E → List ℕ → State → Type 0) → Type 0
 Departs {E = E} serves departs = (engine : E) (front : List ℕ) (s : State) → serves engine front s → departs engine front s
 
-leave_from : {E H : Type 0} (serves departs : E → List ℕ → State → Type 0) (departing : Departs serves departs) (state : H → HubState) (leads : H → H → Type 0) (r : Course H) (end : ServeEnd) (turns : ℕ) (core : E) (hub : H) (watch : Watch) (P : List Act → Judge → Type 0)
-    → (st : Stage serves state leads r core hub watch P) → waits_in st.acts ≤ turns → EndsBy end turns st.acts st.judge
+leave_from : {E H : Type 0} (serves departs : E → List ℕ → State → Type 0) (departing : Departs serves departs) (state : H → HubState) (leads : H → H → Type 0) (r : Course H) (ready : Bool) (end : ServeEnd) (turns : ℕ) (core : E) (hub : H) (watch : Watch) (P : List Act → Judge → Type 0)
+    → (st : Stage serves state leads (record r { ready = ready }) core hub watch P) → waits_in st.acts ≤ turns → EndsBy end turns st.acts st.judge
     → Departing departs state leads r end turns core hub (serials_in watch)
-leave_from serves departs departing state leads r end turns core hub watch P st few cause = record {
+leave_from serves departs departing state leads r ready end turns core hub watch P st few cause = record {
   run = st.acts;
   judge = st.judge;
   leaves = [];
@@ -86,12 +86,12 @@ leave_from serves departs departing state leads r end turns core hub watch P st 
 few_waits : (acts : List Act) (n turns : ℕ) → waits_in acts ≡ n → n ≤ turns → waits_in acts ≤ turns
 few_waits acts n turns e le = omega (arith, e, le)
 
-module _ {E H : Type 0} (serves departs : E → List ℕ → State → Type 0) (departing : Departs serves departs) (state : H → HubState) (leads : H → H → Type 0) (r : Course H) (turns : ℕ) (core : E) (hub : H) (watch : Watch) (old new : SinkState) (calm : r.failed ≡ false) where
+module _ {E H : Type 0} (serves departs : E → List ℕ → State → Type 0) (departing : Departs serves departs) (state : H → HubState) (leads : H → H → Type 0) (r : Course H) (turns : ℕ) (core : E) (hub : H) (watch : Watch) (old new : SinkState) (calm : GoesWell r) where
   abbrev ToLeave : ServeEnd → Type 0
   ToLeave end = IsToLeave departs state leads r end turns core hub (serials_in watch) old new
 
   stayed-counts : (a b : ℕ) → Counts r.failed a b → b ≡ a
-  stayed-counts a b h = subst (λ (x : Bool). Counts x a b) calm h
+  stayed-counts a b h = subst (λ (x : Bool). Counts x a b) calm.0 h
 
   pub to-leave : (end : ServeEnd) → is_failure end ≡ false → AfterTurns serves state leads r turns end core hub watch old new → ToLeave end
   to-leave ends.Quit goes h =
@@ -100,7 +100,7 @@ module _ {E H : Type 0} (serves departs : E → List ℕ → State → Type 0) (
         front = l.front;
         waits = h.0;
         failed = r.failed;
-        departing = leave_from serves departs departing state leads (with_front l.front (record r { waits = h.0 })) ends.Quit turns core hub watch _ l.stage (few_waits l.stage.acts h.0 turns l.stage.waits h.1) l.stage.there;
+        departing = leave_from serves departs departing state leads (with_front l.front (record r { waits = h.0 })) r.ready ends.Quit turns core hub watch _ l.stage (few_waits l.stage.acts h.0 turns l.stage.waits h.1) (l.stage.there.0, l.stage.there.1, l.stage.ready ∙ calm.1);
         wrote = l.wrote;
         counts = stayed-counts;
       }
@@ -110,7 +110,7 @@ module _ {E H : Type 0} (serves departs : E → List ℕ → State → Type 0) (
         front = l.front;
         waits = h.0;
         failed = r.failed;
-        departing = leave_from serves departs departing state leads (with_front l.front (record r { waits = h.0 })) ends.Over turns core hub watch _ l.stage (few_waits l.stage.acts h.0 turns l.stage.waits h.1) l.stage.there.0;
+        departing = leave_from serves departs departing state leads (with_front l.front (record r { waits = h.0 })) false ends.Over turns core hub watch _ l.stage (few_waits l.stage.acts h.0 turns l.stage.waits h.1) l.stage.there.0;
         wrote = l.wrote;
         counts = stayed-counts;
       }
@@ -120,7 +120,7 @@ module _ {E H : Type 0} (serves departs : E → List ℕ → State → Type 0) (
         front = l.front;
         waits = h.0;
         failed = true;
-        departing = leave_from serves departs departing state leads (with_front l.front (record r { waits = h.0; failed = true })) ends.HubFault turns core hub watch _ l.stage (few_waits l.stage.acts h.0 turns l.stage.waits h.1) l.stage.there.0;
+        departing = leave_from serves departs departing state leads (with_front l.front (record r { waits = h.0; failed = true })) false ends.HubFault turns core hub watch _ l.stage (few_waits l.stage.acts h.0 turns l.stage.waits h.1) l.stage.there.0;
         wrote = l.wrote;
         counts = λ a b k. k;
       }
@@ -128,7 +128,7 @@ module _ {E H : Type 0} (serves departs : E → List ℕ → State → Type 0) (
     front = l.front;
     waits = turns;
     failed = r.failed;
-    departing = leave_from serves departs departing state leads (with_front l.front (record r { waits = turns })) ends.TurnsSpent turns core hub watch _ l.stage (few_waits l.stage.acts turns turns l.stage.waits (omega arith)) (l.stage.waits, l.stage.there.0);
+    departing = leave_from serves departs departing state leads (with_front l.front (record r { waits = turns })) r.ready ends.TurnsSpent turns core hub watch _ l.stage (few_waits l.stage.acts turns turns l.stage.waits (omega arith)) (l.stage.waits, l.stage.there.0);
     wrote = l.wrote;
     counts = stayed-counts;
   }
@@ -152,6 +152,7 @@ serves_by departs state leads o turns end core old new sink sink' run leaves jud
   known = left.known ∙ ap (known_with leaves) made.known ∙ known-both run leaves (state old).acts;
   attentive = made.follows;
   judges = made.judges;
+  answered = made.answered;
   leave = left.follows;
   left = left.judges;
   whole = whole;

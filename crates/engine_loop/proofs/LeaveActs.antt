@@ -50,7 +50,7 @@ module _ {E H : Type 0} (departs : E → List ℕ → State → Type 0) (state :
   moves_is = moves-by r.origin d.last.latest d.last.state (act.Close serial) (machine.Closed serial) refl refl refl d.reached open_is
 
   left_is : Made (leaving d.judge) d.between (state hub') (d.leaves ++ act.Close serial ∷ []) (judge_after d.last (act.Close serial))
-  left_is = made-more (leaving d.judge) d.between (state hub) (state hub') d.leaves d.last (act.Close serial) d.left (subst (λ (q : Place). AllowsAt q d.last (act.Close serial)) (sym d.place) refl) calls.acts
+  left_is = made-more (leaving d.judge) d.between (state hub) (state hub') d.leaves d.last (act.Close serial) refl d.left (subst (λ (q : Place). AllowsAt q d.last (act.Close serial)) (sym d.place) refl) calls.acts
 
   faults_is : Counts r.failed (state r.hub).faults (state hub').faults
   faults_is = subst (Counts r.failed (state r.hub).faults) (sym calls.faults) d.faults

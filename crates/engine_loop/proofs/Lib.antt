@@ -14,3 +14,4 @@ pub mod LogWrites
 pub mod TurnSteps
 pub mod Departs
 pub mod Starts
+pub mod Headline

@@ -1,11 +1,15 @@
 -- One more act: where a stage or a cut leads.
-use Rattle.std.specs.Prelude.{◌≡◌, refl, ℕ, ◌+◌, ◌≤◌, Bool, false, cond, List, [], ◌∷◌, ◌++◌, length, take, Option, Some, None, Result, Ok, Err, IsErr}
+use Rattle.std.specs.Prelude.{◌≡◌, refl, ℕ, ◌+◌, ◌≤◌, Bool, true, false, ◌&&◌, cond, List, [], ◌∷◌, ◌++◌, length, take, Option, Some, None, Result, Ok, Err, IsErr}
+use Rattle.std.specs.List.{list_all}
 use Rattle.std.proofs.Common.{arith, ap, sym, subst, ◌∙◌, append_assoc}
+use Rattle.std.proofs.lemmas.Bool.{and_from}
+use Rattle.std.proofs.lemmas.List.Folds.{list_all-append}
 use Rattle.std.proofs.lemmas.List.{take-take, take_all, length-take}
 use Rattle.std.proofs.lemmas.List.Sums.{sum_by_push}
 use Rattle.share_base.specs.declared.out_of_memory.OutOfMemory.{OutOfMemory}
 use Rattle.share_base.specs.Fronts.{IsFront}
 use Rattle.hub_acts.specs.declared.act.Act.{Act}
+use Rattle.hub_acts.specs.declared.act.Act.TheVariants as act
 use Rattle.hub_acts.specs.Acts.{known_after}
 use Rattle.hub_acts.specs.Counting.{Counts, is_fault, latest_with, open_with}
 use Rattle.hub_acts.specs.Hubs.{HubState, HubCalls}
@@ -23,6 +27,7 @@ use Rattle.reached_states.proofs.GrowingLog.{log-grows}
 use Rattle.attentive_acts.specs.Telling.{state_after}
 use Rattle.attentive_acts.specs.Flags.{flags_with}
 use Rattle.attentive_acts.specs.Judging.{Judge, Allows, Follows, judged, judge_after}
+use Rattle.attentive_acts.specs.Offered.{is_answered, is_ready}
 use Rattle.engine_loop.specs.declared.watch.Watch.{Watch}
 use Rattle.engine_loop.specs.Watches.{flags_of, serials_in, AreSeen}
 use Rattle.engine_loop.specs.Stages.{Made, Course, Stage, Cut, After, first_of, is_wait, waits_in, known_with}
@@ -43,10 +48,14 @@ known_more : (acts : List Act) (a : Act) (known : Option (List Act)) → known_a
 known_more acts a None = refl
 known_more acts a (Some before) = ap (λ (xs : List Act). Some xs) (append_assoc before acts (a ∷ []))
 
-pub made-more : (first : Judge) (old mid new : HubState) (acts : List Act) (j : Judge) (a : Act) → Made first old mid acts j → Allows j a → new.acts ≡ known_after (Some a) mid.acts → Made first old new (acts ++ a ∷ []) (judge_after j a)
-made-more first old mid new acts j a m h k = record {
+answered_more : (acts : List Act) (a : Act) → list_all is_answered acts ≡ true → is_answered a ≡ true → list_all is_answered (acts ++ a ∷ []) ≡ true
+answered_more acts a all one = list_all-append is_answered acts (a ∷ []) ∙ and_from (list_all is_answered acts) (list_all is_answered (a ∷ [])) all (and_from (is_answered a) true one refl)
+
+pub made-more : (first : Judge) (old mid new : HubState) (acts : List Act) (j : Judge) (a : Act) → is_answered a ≡ true → Made first old mid acts j → Allows j a → new.acts ≡ known_after (Some a) mid.acts → Made first old new (acts ++ a ∷ []) (judge_after j a)
+made-more first old mid new acts j a answered m h k = record {
   follows = follows_more first acts a m.follows (subst (λ (i : Judge). Allows i a) (sym m.judges) h);
   judges = judged_more first acts a ∙ ap (λ (i : Judge). judge_after i a) m.judges;
+  answered = answered_more acts a m.answered answered;
   known = k ∙ ap (known_after (Some a)) m.known ∙ known_more acts a old.acts;
 }
 
@@ -61,6 +70,24 @@ waits_more acts a e =
 
 counts_more : (failed more : Bool) (old mid new : ℕ) → Counts failed old mid → Counts more mid new → more ≡ false → Counts failed old new
 counts_more failed more old mid new f m e = subst (Counts failed old) (sym (subst (λ (b : Bool). Counts b mid new) e m)) f
+
+wait_ready : (a : Act) → is_wait a ≡ false → is_ready a ≡ true
+wait_ready (act.Wait ms answer marks) e = absurd (let x : ⊥ = cc in x)
+wait_ready a e = refl
+
+pub ready-more : (acts : List Act) (a : Act) → is_ready a ≡ true → list_all is_ready (acts ++ a ∷ []) ≡ list_all is_ready acts
+ready-more acts a e = list_all-append is_ready acts (a ∷ []) ∙ ap (λ (b : Bool). list_all is_ready acts && (b && true)) e ∙ and_true (list_all is_ready acts)
+  where
+    and_true : (b : Bool) → (b && true) ≡ b
+    and_true true = refl
+    and_true false = refl
+
+pub ready-none : (acts : List Act) (a : Act) → is_ready a ≡ false → list_all is_ready (acts ++ a ∷ []) ≡ false
+ready-none acts a e = list_all-append is_ready acts (a ∷ []) ∙ ap (λ (b : Bool). list_all is_ready acts && (b && true)) e ∙ and_false (list_all is_ready acts)
+  where
+    and_false : (b : Bool) → (b && false) ≡ false
+    and_false true = refl
+    and_false false = refl
 
 pub front-on : (front one other : List ℕ) → IsFront front one → IsFront one other → IsFront front other
 front-on front one other h k =
@@ -100,12 +127,13 @@ moves-none o latest s a e l n r = subst (MovesTo o latest s a) (sym e) (record {
 
 -- ---- one more act of a run
 
--- the act was made, it isn't a wait, and no fault of the hub
+-- the act was made, it isn't a wait, no fault of the hub, and no write that ran out of memory
 pub record Acted {H : Type 0} (state : H → HubState) (leads : H → H → Type 0) (hub hub' : H) (a : Act) : Type 0 where
   pub calls : HubCalls (Some a) (state hub) (state hub')
   pub led : leads hub hub'
   pub calm : is_fault a ≡ false
   pub goes : is_wait a ≡ false
+  pub answered : is_answered a ≡ true
 
 abbrev pub IsTransitive : {H : Type 0} → (H → H → Type 0) → Type 0
 IsTransitive {H = H} leads = (old middle new : H) → leads old middle → leads middle new → leads old new
@@ -119,8 +147,9 @@ pub stage-more : {E H : Type 0} (serves : E → List ℕ → State → Type 0) (
 stage-more serves state leads r core core' hub hub' watch watch' P Q a trans acted st fs seen ws moves allowed served there = record {
   acts = st.acts ++ a ∷ [];
   judge = judge_after st.judge a;
-  made = made-more (first_of r) (state r.hub) (state hub) (state hub') st.acts st.judge a st.made allowed acted.calls.acts;
+  made = made-more (first_of r) (state r.hub) (state hub) (state hub') st.acts st.judge a acted.answered st.made allowed acted.calls.acts;
   waits = waits_more st.acts a acted.goes ∙ st.waits;
+  ready = ready-more st.acts a (wait_ready a acted.goes) ∙ st.ready;
   faults = counts_more r.failed (is_fault a) (state r.hub).faults (state hub).faults (state hub').faults st.faults acted.calls.faults acted.calm;
   led = trans r.hub hub hub' st.led acted.led;
   latest = ap (latest_with a) st.latest ∙ sym acted.calls.latest;
@@ -140,7 +169,7 @@ pub cut-more : {E H : Type 0} (serves : E → List ℕ → State → Type 0) (st
 cut-more serves state leads r core hub hub' watch P a trans acted st moves allowed = record {
   acts = st.acts ++ a ∷ [];
   judge = judge_after st.judge a;
-  made = made-more (first_of r) (state r.hub) (state hub) (state hub') st.acts st.judge a st.made allowed acted.calls.acts;
+  made = made-more (first_of r) (state r.hub) (state hub) (state hub') st.acts st.judge a acted.answered st.made allowed acted.calls.acts;
   waits = let e : waits_in (st.acts ++ a ∷ []) ≡ r.waits = waits_more st.acts a acted.goes ∙ st.waits in omega (arith, e);
   faults = counts_more r.failed (is_fault a) (state r.hub).faults (state hub).faults (state hub').faults st.faults acted.calls.faults acted.calm;
   led = trans r.hub hub hub' st.led acted.led;
@@ -154,7 +183,7 @@ pub cut-none : {E H : Type 0} (serves : E → List ℕ → State → Type 0) (st
 cut-none serves state leads r core hub hub' watch P trans calls led st = record {
   acts = st.acts;
   judge = st.judge;
-  made = record { follows = st.made.follows; judges = st.made.judges; known = calls.acts ∙ same (state hub).acts ∙ st.made.known };
+  made = record { follows = st.made.follows; judges = st.made.judges; answered = st.made.answered; known = calls.acts ∙ same (state hub).acts ∙ st.made.known };
   waits = let e = st.waits in omega (arith, e);
   faults = subst (Counts r.failed (state r.hub).faults) (sym calls.faults) st.faults;
   led = trans r.hub hub hub' st.led led;
@@ -173,6 +202,7 @@ elsewhere serves state leads r core hub watch P Q st there = record {
   judge = st.judge;
   made = st.made;
   waits = st.waits;
+  ready = st.ready;
   faults = st.faults;
   led = st.led;
   latest = st.latest;

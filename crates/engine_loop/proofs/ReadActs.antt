@@ -130,11 +130,11 @@ module _ {E H : Type 0} (serves : E → List ℕ → State → Type 0) (state : 
 
   pub got-reads : (n : ℕ) → FitsRead (read.Got n) (length buf) → HubCalls (Some (act.Read serial (length buf) (read.Got n) (take n buf))) (state hub) (state hub') → Steps serves core core' (machine.Got serial (take n buf))
       → Stage serves state leads r core' hub' watch (Is (λ fs s. at_reads fs s rest))
-  got-reads n fits calls steps = read-more serves state leads r core core' hub hub' watch watch serial (length buf) (read.Got n) (take n buf) rest trans (record { calls = calls; led = led; calm = refl; goes = refl }) st (got_is n fits) refl st.seen refl
+  got-reads n fits calls steps = read-more serves state leads r core core' hub hub' watch watch serial (length buf) (read.Got n) (take n buf) rest trans (record { calls = calls; led = led; calm = refl; goes = refl; answered = refl }) st (got_is n fits) refl st.seen refl
       (moves-got r st.judge serial (length buf) n (take n buf) st.reached open_is) (steps r.origin st.judge.latest r.front st.judge.state st.reached open_is st.served)
 
   pub got-cuts : (n : ℕ) → FitsRead (read.Got n) (length buf) → HubCalls (Some (act.Read serial (length buf) (read.Got n) (take n buf))) (state hub) (state hub') → Cut state leads r hub'
-  got-cuts n fits calls = read-cut serves state leads r core hub hub' watch serial (length buf) (read.Got n) (take n buf) rest trans (record { calls = calls; led = led; calm = refl; goes = refl }) st (got_is n fits)
+  got-cuts n fits calls = read-cut serves state leads r core hub hub' watch serial (length buf) (read.Got n) (take n buf) rest trans (record { calls = calls; led = led; calm = refl; goes = refl; answered = refl }) st (got_is n fits)
       (moves-got r st.judge serial (length buf) n (take n buf) st.reached open_is)
 
   end_is : IsRead st.judge serial (length buf) read.End []
@@ -144,11 +144,11 @@ module _ {E H : Type 0} (serves : E → List ℕ → State → Type 0) (state : 
       → Stage serves state leads r core' hub' watch' (Is (λ fs s. at_reads fs s rest))
   end-reads is calls steps =
       let sets = sets-read watch watch' serial is in
-      read-more serves state leads r core core' hub hub' watch watch' serial (length buf) read.End [] rest trans (record { calls = calls; led = led; calm = refl; goes = refl }) st end_is (sym (sets.flags (total st.judge.state.routed))) (changed-seen watch watch' serial ReadsDrained (total st.judge.state.routed) tt is st.seen) sets.serials
+      read-more serves state leads r core core' hub hub' watch watch' serial (length buf) read.End [] rest trans (record { calls = calls; led = led; calm = refl; goes = refl; answered = refl }) st end_is (sym (sets.flags (total st.judge.state.routed))) (changed-seen watch watch' serial ReadsDrained (total st.judge.state.routed) tt is st.seen) sets.serials
       (moves-end r st.judge serial (length buf) [] st.reached open_is) (steps r.origin st.judge.latest r.front st.judge.state st.reached open_is st.served)
 
   pub end-cuts : HubCalls (Some (act.Read serial (length buf) read.End [])) (state hub) (state hub') → Cut state leads r hub'
-  end-cuts calls = read-cut serves state leads r core hub hub' watch serial (length buf) read.End [] rest trans (record { calls = calls; led = led; calm = refl; goes = refl }) st end_is
+  end-cuts calls = read-cut serves state leads r core hub hub' watch serial (length buf) read.End [] rest trans (record { calls = calls; led = led; calm = refl; goes = refl; answered = refl }) st end_is
       (moves-end r st.judge serial (length buf) [] st.reached open_is)
 
   failed_is : IsRead st.judge serial (length buf) read.Failed []
@@ -158,17 +158,17 @@ module _ {E H : Type 0} (serves : E → List ℕ → State → Type 0) (state : 
       → Stage serves state leads r core' hub' watch' (Is (λ fs s. at_reads fs s rest))
   failed-reads is calls steps =
       let sets = sets-read watch watch' serial is in
-      read-more serves state leads r core core' hub hub' watch watch' serial (length buf) read.Failed [] rest trans (record { calls = calls; led = led; calm = refl; goes = refl }) st failed_is (sym (sets.flags (total st.judge.state.routed))) (changed-seen watch watch' serial ReadsDrained (total st.judge.state.routed) tt is st.seen) sets.serials
+      read-more serves state leads r core core' hub hub' watch watch' serial (length buf) read.Failed [] rest trans (record { calls = calls; led = led; calm = refl; goes = refl; answered = refl }) st failed_is (sym (sets.flags (total st.judge.state.routed))) (changed-seen watch watch' serial ReadsDrained (total st.judge.state.routed) tt is st.seen) sets.serials
       (moves-failed r st.judge serial (length buf) [] st.reached open_is) (steps r.origin st.judge.latest r.front st.judge.state st.reached open_is st.served)
 
   pub failed-cuts : HubCalls (Some (act.Read serial (length buf) read.Failed [])) (state hub) (state hub') → Cut state leads r hub'
-  failed-cuts calls = read-cut serves state leads r core hub hub' watch serial (length buf) read.Failed [] rest trans (record { calls = calls; led = led; calm = refl; goes = refl }) st failed_is
+  failed-cuts calls = read-cut serves state leads r core hub hub' watch serial (length buf) read.Failed [] rest trans (record { calls = calls; led = led; calm = refl; goes = refl; answered = refl }) st failed_is
       (moves-failed r st.judge serial (length buf) [] st.reached open_is)
 
   pub none-reads : IsChanged watch watch' serial ReadsDrained → HubCalls (Some (act.Read serial (length buf) read.NotNow [])) (state hub) (state hub')
       → Stage serves state leads r core hub' watch' (Is (λ fs s. at_reads fs s rest))
   none-reads is calls =
       let sets = sets-read watch watch' serial is in
-      read-more serves state leads r core core hub hub' watch watch' serial (length buf) read.NotNow [] rest trans (record { calls = calls; led = led; calm = refl; goes = refl }) st
+      read-more serves state leads r core core hub hub' watch watch' serial (length buf) read.NotNow [] rest trans (record { calls = calls; led = led; calm = refl; goes = refl; answered = refl }) st
       (record { room_is = full; fits = tt; bytes_are = refl; readable = is_now }) (sym (sets.flags (total st.judge.state.routed))) (changed-seen watch watch' serial ReadsDrained (total st.judge.state.routed) tt is st.seen) sets.serials
       (moves-not_now r st.judge serial (length buf) [] st.reached) st.served

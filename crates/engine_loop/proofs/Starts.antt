@@ -14,7 +14,7 @@ use Rattle.engine_loop.specs.declared.serve_end.ServeEnd.TheVariants as ends
 use Rattle.engine_loop.specs.declared.watch.Stream.{Stream}
 use Rattle.engine_loop.specs.declared.watch.Watch.{Watch}
 use Rattle.engine_loop.specs.Watches.{flags_of, AreSeen, flag_of, serial_of}
-use Rattle.engine_loop.specs.Stages.{Course, IsWaiting}
+use Rattle.engine_loop.specs.Stages.{Course, GoesWell, IsWaiting}
 use Rattle.engine_loop.specs.Turns.{Logged, Ended, AfterTurn, waited_once}
 use Rattle.engine_loop.specs.Ends.{AfterTurns}
 use Rattle.engine_loop.specs.Serving.{IsNewHub}
@@ -22,23 +22,27 @@ use Rattle.engine_loop.proofs.Departs.{made-none}
 
 -- a course, so many waits on
 abbrev pub after_waits : {H : Type 0} → ℕ → Course H → Course H
-after_waits n r = record r { waits = n; failed = false }
+after_waits n r = record r { waits = n; failed = false; ready = true }
 
 pub no-waits : {E H : Type 0} (serves : E → List ℕ → State → Type 0) (state : H → HubState) (leads : H → H → Type 0) (r : Course H) (core : E) (hub : H) (watch : Watch) (old new : SinkState)
-    → r.failed ≡ false → r.waits ≡ 0 → Logged serves state leads r core hub watch old new IsWaiting → Logged serves state leads (after_waits 0 r) core hub watch old new IsWaiting
+    → GoesWell r → r.waits ≡ 0 → Logged serves state leads r core hub watch old new IsWaiting → Logged serves state leads (after_waits 0 r) core hub watch old new IsWaiting
 no-waits serves state leads r core hub watch old new calm none l =
-    let one : Logged serves state leads (record r { waits = 0; failed = r.failed }) core hub watch old new IsWaiting =
-    subst (λ (n : ℕ). Logged serves state leads (record r { waits = n; failed = r.failed }) core hub watch old new IsWaiting) none l in
-    subst (λ (b : Bool). Logged serves state leads (record r { waits = 0; failed = b }) core hub watch old new IsWaiting) calm one
+    let one : Logged serves state leads (record r { waits = 0 }) core hub watch old new IsWaiting =
+    subst (λ (n : ℕ). Logged serves state leads (record r { waits = n }) core hub watch old new IsWaiting) none l in
+    let two : Logged serves state leads (record r { waits = 0; failed = false }) core hub watch old new IsWaiting =
+    subst (λ (b : Bool). Logged serves state leads (record r { waits = 0; failed = b }) core hub watch old new IsWaiting) calm.0 one in
+    subst (λ (b : Bool). Logged serves state leads (record r { waits = 0; failed = false; ready = b }) core hub watch old new IsWaiting) calm.1 two
 
 calm-again : {E H : Type 0} (serves : E → List ℕ → State → Type 0) (state : H → HubState) (leads : H → H → Type 0) (r : Course H) (n : ℕ) (end : ServeEnd) (core : E) (hub : H) (watch : Watch) (old new : SinkState)
-    → r.failed ≡ false → Ended serves state leads (after_waits n r) end core hub watch old new → Ended serves state leads (record r { waits = n }) end core hub watch old new
+    → GoesWell r → Ended serves state leads (after_waits n r) end core hub watch old new → Ended serves state leads (record r { waits = n }) end core hub watch old new
 calm-again serves state leads r n end core hub watch old new calm h =
-    subst (λ (b : Bool). Ended serves state leads (record r { waits = n; failed = b }) end core hub watch old new) (sym calm) h
+    let one : Ended serves state leads (record r { waits = n; failed = false }) end core hub watch old new =
+    subst (λ (b : Bool). Ended serves state leads (record r { waits = n; failed = false; ready = b }) end core hub watch old new) (sym calm.1) h in
+    subst (λ (b : Bool). Ended serves state leads (record r { waits = n; failed = b }) end core hub watch old new) (sym calm.0) one
 
 -- a turn was the last one
 pub turn-ends : {E H : Type 0} (serves : E → List ℕ → State → Type 0) (state : H → HubState) (leads : H → H → Type 0) (r : Course H) (n turns : ℕ) (end : ServeEnd) (core : E) (hub : H) (watch : Watch) (old new : SinkState)
-    → r.failed ≡ false → n < turns → AfterTurn serves state leads (waited_once false (after_waits n r)) (Err end) core hub watch old new IsWaiting
+    → GoesWell r → n < turns → AfterTurn serves state leads (waited_once false (after_waits n r)) (Err end) core hub watch old new IsWaiting
     → AfterTurns serves state leads r turns end core hub watch old new
 turn-ends serves state leads r n turns ends.Quit core hub watch old new calm lt h = (n + 1, omega (arith, lt), calm-again serves state leads r (n + 1) ends.Quit core hub watch old new calm h)
 turn-ends serves state leads r n turns ends.Over core hub watch old new calm lt h = (n + 1, omega (arith, lt), calm-again serves state leads r (n + 1) ends.Over core hub watch old new calm h)
@@ -49,7 +53,7 @@ turn-ends serves state leads r n turns ends.TurnsSpent core hub watch old new ca
 
 -- all turns were made
 pub turns-spent : {E H : Type 0} (serves : E → List ℕ → State → Type 0) (state : H → HubState) (leads : H → H → Type 0) (r : Course H) (n turns : ℕ) (core : E) (hub : H) (watch : Watch) (old new : SinkState)
-    → r.failed ≡ false → n ≡ turns → Logged serves state leads (after_waits n r) core hub watch old new IsWaiting
+    → GoesWell r → n ≡ turns → Logged serves state leads (after_waits n r) core hub watch old new IsWaiting
     → AfterTurns serves state leads r turns ends.TurnsSpent core hub watch old new
 turns-spent serves state leads r n turns core hub watch old new calm e l =
     let spent = calm-again serves state leads r n ends.TurnsSpent core hub watch old new calm l in
@@ -58,7 +62,7 @@ turns-spent serves state leads r n turns core hub watch old new calm e l =
 -- ---- the start
 
 abbrev pub first_course : {H : Type 0} → Origin → H → Course H
-first_course o hub = record { origin = o; hub = hub; front = []; waits = 0; failed = false }
+first_course o hub = record { origin = o; hub = hub; front = []; waits = 0; failed = false; ready = true }
 
 pub starts : {E H : Type 0} (serves : E → List ℕ → State → Type 0) (state : H → HubState) (leads : H → H → Type 0) (stays : (h : H) → leads h h) (o : Origin) (core : E) (hub : H) (watch : Watch) (sink : SinkState)
     → IsNewHub (state hub) → serves core [] (start_of o) → watch.listens ≡ true → watch.streams.items ≡ []
@@ -70,6 +74,7 @@ starts serves state leads stays o core hub watch sink is_new served listens stre
     judge = first_judge (start_of o);
     made = made-none (first_judge (start_of o)) (state hub);
     waits = refl;
+    ready = refl;
     faults = refl;
     led = stays hub;
     latest = sym is_new.latest;

@@ -19,7 +19,7 @@ use Rattle.server_engine.specs.Engines.{Reads}
 use Rattle.engine_loop.specs.declared.serve_end.ServeEnd.{ServeEnd}
 use Rattle.engine_loop.specs.declared.serve_end.ServeEnd.TheVariants as ends
 use Rattle.engine_loop.specs.declared.watch.Watch.{Watch}
-use Rattle.engine_loop.specs.Stages.{Course, Stage, Cut, Is, IsTurned, IsWaiting, Passes}
+use Rattle.engine_loop.specs.Stages.{Course, GoesWell, Stage, Cut, Is, IsTurned, IsWaiting, Passes}
 use Rattle.engine_loop.specs.Turns.{Wrote, Failed, Logged, AfterLog, Heeds, EndsAtFailure, AfterTurn, AfterWait, HasQuit, with_front, waited_once, IsAny}
 use Rattle.engine_loop.specs.Ends.{GoesOn, GoesOnAfter}
 use Rattle.engine_loop.proofs.MoreActs.{elsewhere}
@@ -33,6 +33,7 @@ cleared serves state leads r front core core' hub watch P st served = record {
   judge = st.judge;
   made = st.made;
   waits = st.waits;
+  ready = st.ready;
   faults = st.faults;
   led = st.led;
   latest = st.latest;
@@ -54,6 +55,7 @@ stayed serves state leads r core core' hub watch P Q st served there = record {
   judge = st.judge;
   made = st.made;
   waits = st.waits;
+  ready = st.ready;
   faults = st.faults;
   led = st.led;
   latest = st.latest;
@@ -115,20 +117,20 @@ phase-step serves state leads r core core1 core2 hub hub1 watch watch1 old mid n
 
 -- ---- the wait of a turn, and its end
 
-cut_waited : {H : Type 0} (state : H → HubState) (leads : H → H → Type 0) (r : Course H) (hub : H) → r.failed ≡ false → Cut state leads r hub → Cut state leads (waited_once false r) hub
+cut_waited : {H : Type 0} (state : H → HubState) (leads : H → H → Type 0) (r : Course H) (hub : H) → GoesWell r → Cut state leads r hub → Cut state leads (waited_once false r) hub
 cut_waited state leads r hub calm cut = record {
   acts = cut.acts;
   judge = cut.judge;
   made = cut.made;
   waits = let few = cut.waits in omega (arith, few);
-  faults = subst (λ (b : Bool). Counts b (state r.hub).faults (state hub).faults) calm cut.faults;
+  faults = subst (λ (b : Bool). Counts b (state r.hub).faults (state hub).faults) calm.0 cut.faults;
   led = cut.led;
   wrote = cut.wrote;
 }
 
 pub wait-step : {E H : Type 0} (serves : E → List ℕ → State → Type 0) (state : H → HubState) (leads : H → H → Type 0) (r : Course H) (core : E) (hub hub1 : H) (watch watch1 : Watch) (old mid : SinkState) (result : Result (Unit {0}) ServeEnd)
-    → r.failed ≡ false → Logged serves state leads r core hub watch old mid IsWaiting
-    → ((c : Course H) → c.failed ≡ false → Stage serves state leads c core hub watch IsWaiting → AfterWait serves state leads c result core hub1 watch1)
+    → GoesWell r → Logged serves state leads r core hub watch old mid IsWaiting
+    → ((c : Course H) → GoesWell c → Stage serves state leads c core hub watch IsWaiting → AfterWait serves state leads c result core hub1 watch1)
     → AfterTurn serves state leads (waited_once false r) result core hub1 watch1 old mid (Is (λ fs s. Asks))
 wait-step serves state leads r core hub hub1 watch watch1 old mid (Ok done) calm l go = record { front = l.front; stage = go (with_front l.front r) calm l.stage; wrote = l.wrote }
 wait-step serves state leads r core hub hub1 watch watch1 old mid (Err ends.Over) calm l go = record { front = l.front; stage = go (with_front l.front r) calm l.stage; wrote = l.wrote }

@@ -1,5 +1,6 @@
 -- A wait, with each answer; and the moment that is asked for after it.
 use Rattle.std.specs.Prelude.{◌≡◌, refl, ℕ, ◌+◌, ◌<◌, Bool, true, false, cond, List, [], ◌∷◌, ◌++◌, length, fold, Some, None}
+use Rattle.std.specs.List.{list_all}
 use Rattle.std.proofs.Common.{arith, ap, sym, subst, ◌∙◌}
 use Rattle.std.proofs.lemmas.Grind.{common_steps}
 use Rattle.std.proofs.lemmas.List.Sums.{sum_by_push}
@@ -21,12 +22,13 @@ use Rattle.attentive_acts.specs.Telling.{state_after}
 use Rattle.attentive_acts.specs.Flags.{flags_with, with_mark}
 use Rattle.attentive_acts.specs.Places.{Place, Asks, at_accepts, most_accepts, place_after}
 use Rattle.attentive_acts.specs.Judging.{Judge, AllowsAt, timeout, judge_after}
+use Rattle.attentive_acts.specs.Offered.{is_ready}
 use Rattle.engine_loop.specs.declared.watch.Watch.{Watch}
 use Rattle.engine_loop.specs.Watches.{flags_of, serials_in, AreSeen, Sets}
-use Rattle.engine_loop.specs.Stages.{Course, Stage, Cut, Is, IsWaiting, first_of, is_wait, waits_in}
-use Rattle.engine_loop.specs.Turns.{waited_once, HasEnded}
+use Rattle.engine_loop.specs.Stages.{Course, GoesWell, Stage, Cut, Is, IsWaiting, first_of, is_wait, waits_in}
+use Rattle.engine_loop.specs.Turns.{waited_once, ended_once, HasEnded}
 use Rattle.engine_loop.proofs.WatchFlags.{flags-grown}
-use Rattle.engine_loop.proofs.MoreActs.{Acted, IsTransitive, Moves, moves-by, moves-none, made-more, stage-more, cut-more}
+use Rattle.engine_loop.proofs.MoreActs.{Acted, IsTransitive, Moves, moves-by, moves-none, made-more, ready-more, ready-none, stage-more, cut-more}
 
 -- at a wait few connections are open
 pub few-wait : (o : Origin) (latest : ℕ) (s : State) → Reached o latest s → closing s ≡ None → length (serials s.connections) < 128
@@ -49,21 +51,23 @@ waits_one acts a n e k =
     let one_is : weigh true ≡ 1 = refl in
     omega (arith, push, one, one_is, k)
 
-pub stage-wait : {E H : Type 0} (serves : E → List ℕ → State → Type 0) (state : H → HubState) (leads : H → H → Type 0) (r : Course H) (core : E) (hub hub' : H) (watch watch' : Watch) (Q : List Act → Judge → Type 0) (ms : ℕ) (answer : Waited) (marks : List Mark) (failed : Bool)
+pub stage-wait : {E H : Type 0} (serves : E → List ℕ → State → Type 0) (state : H → HubState) (leads : H → H → Type 0) (r : Course H) (core : E) (hub hub' : H) (watch watch' : Watch) (Q : List Act → Judge → Type 0) (ms : ℕ) (answer : Waited) (marks : List Mark) (failed ready : Bool)
     → IsTransitive leads → HubCalls (Some (act.Wait ms answer marks)) (state hub) (state hub') → leads hub hub' → r.failed ≡ false → is_fault (act.Wait ms answer marks) ≡ failed
     → (st : Stage serves state leads r core hub watch IsWaiting)
+    → list_all is_ready (st.acts ++ act.Wait ms answer marks ∷ []) ≡ ready
     → ms ≡ timeout st.judge.flags st.judge.state
     → flags_with (act.Wait ms answer marks) (flags_of (total st.judge.state.routed) watch) ≡ flags_of (total st.judge.state.routed) watch' → AreSeen (total st.judge.state.routed) watch'.streams.items → serials_in watch' ≡ serials_in watch
     → Q (st.acts ++ act.Wait ms answer marks ∷ []) (judge_after st.judge (act.Wait ms answer marks))
-    → Stage serves state leads (waited_once failed r) core hub' watch' Q
-stage-wait serves state leads r core hub hub' watch watch' Q ms answer marks failed trans calls led calm fault st soon fs seen ws there =
+    → Stage serves state leads (record r { waits = r.waits + 1; failed = failed; ready = ready }) core hub' watch' Q
+stage-wait serves state leads r core hub hub' watch watch' Q ms answer marks failed ready trans calls led calm fault st all soon fs seen ws there =
     let a : Act = act.Wait ms answer marks in
     let moves : Moves r.origin st.judge.latest st.judge.state a = moves-none r.origin st.judge.latest st.judge.state a refl refl refl st.reached in
     record {
       acts = st.acts ++ a ∷ [];
       judge = judge_after st.judge a;
-      made = made-more (first_of r) (state r.hub) (state hub) (state hub') st.acts st.judge a st.made (subst (λ (q : Place). AllowsAt q st.judge a) (sym st.there.0) soon) calls.acts;
+      made = made-more (first_of r) (state r.hub) (state hub) (state hub') st.acts st.judge a refl st.made (subst (λ (q : Place). AllowsAt q st.judge a) (sym st.there.0) soon) calls.acts;
       waits = waits_one st.acts a r.waits refl st.waits;
+      ready = all;
       faults = faults_more r.failed failed (is_fault a) (state r.hub).faults (state hub).faults (state hub').faults calm fault st.faults calls.faults;
       led = trans r.hub hub hub' st.led led;
       latest = st.latest ∙ sym calls.latest;
@@ -77,31 +81,31 @@ stage-wait serves state leads r core hub hub' watch watch' Q ms answer marks fai
     }
 
 pub wait-ready : {E H : Type 0} (serves : E → List ℕ → State → Type 0) (state : H → HubState) (leads : H → H → Type 0) (r : Course H) (core : E) (hub hub' : H) (watch watch' : Watch) (ms : ℕ) (marks : List Mark)
-    → IsTransitive leads → HubCalls (Some (act.Wait ms waited.Ready marks)) (state hub) (state hub') → leads hub hub' → r.failed ≡ false
+    → IsTransitive leads → HubCalls (Some (act.Wait ms waited.Ready marks)) (state hub) (state hub') → leads hub hub' → GoesWell r
     → (st : Stage serves state leads r core hub watch IsWaiting) → ms ≡ timeout st.judge.flags st.judge.state
     → Sets watch watch' (λ fs. fold with_mark fs marks)
     → Stage serves state leads (waited_once false r) core hub' watch' (Is (λ fs s. Asks))
 wait-ready serves state leads r core hub hub' watch watch' ms marks trans calls led calm st soon sets =
     let k : Judge = judge_after st.judge (act.Wait ms waited.Ready marks) in
-    stage-wait serves state leads r core hub hub' watch watch' (Is (λ fs s. Asks)) ms waited.Ready marks false trans calls led calm refl st soon
+    stage-wait serves state leads r core hub hub' watch watch' (Is (λ fs s. Asks)) ms waited.Ready marks false r.ready trans calls led calm.0 refl st (ready-more st.acts (act.Wait ms waited.Ready marks) refl ∙ st.ready) soon
     (sym (sets.flags (total st.judge.state.routed))) (sets.seen (total st.judge.state.routed) st.seen) sets.serials (ap (λ (p : Place). place_after p (act.Wait ms waited.Ready marks) k.flags k.state) st.there.0)
 
 pub wait-over : {E H : Type 0} (serves : E → List ℕ → State → Type 0) (state : H → HubState) (leads : H → H → Type 0) (r : Course H) (core : E) (hub hub' : H) (watch : Watch) (ms : ℕ)
-    → IsTransitive leads → HubCalls (Some (act.Wait ms waited.Over [])) (state hub) (state hub') → leads hub hub' → r.failed ≡ false
+    → IsTransitive leads → HubCalls (Some (act.Wait ms waited.Over [])) (state hub) (state hub') → leads hub hub' → GoesWell r
     → (st : Stage serves state leads r core hub watch IsWaiting) → ms ≡ timeout st.judge.flags st.judge.state
-    → Stage serves state leads (waited_once false r) core hub' watch (HasEnded waited.Over)
+    → Stage serves state leads (ended_once false r) core hub' watch (HasEnded waited.Over)
 wait-over serves state leads r core hub hub' watch ms trans calls led calm st soon =
     let k : Judge = judge_after st.judge (act.Wait ms waited.Over []) in
-    stage-wait serves state leads r core hub hub' watch watch (HasEnded waited.Over) ms waited.Over [] false trans calls led calm refl st soon refl st.seen refl
+    stage-wait serves state leads r core hub hub' watch watch (HasEnded waited.Over) ms waited.Over [] false false trans calls led calm.0 refl st (ready-none st.acts (act.Wait ms waited.Over []) refl) soon refl st.seen refl
     ((st.acts, ms, refl), ap (λ (p : Place). place_after p (act.Wait ms waited.Over []) k.flags k.state) st.there.0)
 
 pub wait-failed : {E H : Type 0} (serves : E → List ℕ → State → Type 0) (state : H → HubState) (leads : H → H → Type 0) (r : Course H) (core : E) (hub hub' : H) (watch : Watch) (ms : ℕ)
-    → IsTransitive leads → HubCalls (Some (act.Wait ms waited.Failed [])) (state hub) (state hub') → leads hub hub' → r.failed ≡ false
+    → IsTransitive leads → HubCalls (Some (act.Wait ms waited.Failed [])) (state hub) (state hub') → leads hub hub' → GoesWell r
     → (st : Stage serves state leads r core hub watch IsWaiting) → ms ≡ timeout st.judge.flags st.judge.state
-    → Stage serves state leads (waited_once true r) core hub' watch (HasEnded waited.Failed)
+    → Stage serves state leads (ended_once true r) core hub' watch (HasEnded waited.Failed)
 wait-failed serves state leads r core hub hub' watch ms trans calls led calm st soon =
     let k : Judge = judge_after st.judge (act.Wait ms waited.Failed []) in
-    stage-wait serves state leads r core hub hub' watch watch (HasEnded waited.Failed) ms waited.Failed [] true trans calls led calm refl st soon refl st.seen refl
+    stage-wait serves state leads r core hub hub' watch watch (HasEnded waited.Failed) ms waited.Failed [] true false trans calls led calm.0 refl st (ready-none st.acts (act.Wait ms waited.Failed []) refl) soon refl st.seen refl
     ((st.acts, ms, refl), ap (λ (p : Place). place_after p (act.Wait ms waited.Failed []) k.flags k.state) st.there.0)
 
 -- ---- the moment

@@ -166,23 +166,23 @@ module _ {E H : Type 0} (serves : E → List ℕ → State → Type 0) (state : 
 
   pub took-writes : (n : ℕ) → FitsWrite (written.Took n) (length piece) → HubCalls (Some (act.Write serial piece (written.Took n))) (state hub) (state hub') → Steps serves core core' (machine.Took serial n)
       → Stage serves state leads r core' hub' watch (Is (λ fs s. at_writes fs s rest))
-  took-writes n fits calls steps = write-more serves state leads r core core' hub hub' watch watch serial (written.Took n) piece rest trans (record { calls = calls; led = led; calm = refl; goes = refl }) st (written_is (written.Took n) fits) refl st.seen refl
+  took-writes n fits calls steps = write-more serves state leads r core core' hub hub' watch watch serial (written.Took n) piece rest trans (record { calls = calls; led = led; calm = refl; goes = refl; answered = refl }) st (written_is (written.Took n) fits) refl st.seen refl
       (moves-by r.origin st.judge.latest st.judge.state (act.Write serial piece (written.Took n)) (machine.Took serial n) refl refl refl st.reached (took_is n fits))
       (steps r.origin st.judge.latest r.front st.judge.state st.reached (took_is n fits) st.served)
 
   pub failed-writes : IsChanged watch watch' serial (WritesDrained seen) → HubCalls (Some (act.Write serial piece written.Failed)) (state hub) (state hub') → Steps serves core core' (machine.Failed serial)
       → Stage serves state leads r core' hub' watch' (Is (λ fs s. at_writes fs s rest))
-  failed-writes is calls steps = write-more serves state leads r core core' hub hub' watch watch' serial written.Failed piece rest trans (record { calls = calls; led = led; calm = refl; goes = refl }) st (written_is written.Failed tt)
+  failed-writes is calls steps = write-more serves state leads r core core' hub hub' watch watch' serial written.Failed piece rest trans (record { calls = calls; led = led; calm = refl; goes = refl; answered = refl }) st (written_is written.Failed tt)
       (sym (sets-write watch watch' serial seen (total st.judge.state.routed) seen_is is)) (changed-seen watch watch' serial (WritesDrained seen) (total st.judge.state.routed) seen_is is st.seen) (changed-serials watch watch' serial (WritesDrained seen) is)
       (moves-by r.origin st.judge.latest st.judge.state (act.Write serial piece written.Failed) (machine.Failed serial) refl refl refl st.reached open_is)
       (steps r.origin st.judge.latest r.front st.judge.state st.reached open_is st.served)
 
   pub failed-cuts : HubCalls (Some (act.Write serial piece written.Failed)) (state hub) (state hub') → Cut state leads r hub'
-  failed-cuts calls = write-cut serves state leads r core hub hub' watch serial written.Failed piece rest trans (record { calls = calls; led = led; calm = refl; goes = refl }) st (written_is written.Failed tt)
+  failed-cuts calls = write-cut serves state leads r core hub hub' watch serial written.Failed piece rest trans (record { calls = calls; led = led; calm = refl; goes = refl; answered = refl }) st (written_is written.Failed tt)
       (moves-by r.origin st.judge.latest st.judge.state (act.Write serial piece written.Failed) (machine.Failed serial) refl refl refl st.reached open_is)
 
   pub none-writes : IsChanged watch watch' serial (WritesDrained seen) → HubCalls (Some (act.Write serial piece written.NotNow)) (state hub) (state hub')
       → Stage serves state leads r core hub' watch' (Is (λ fs s. at_writes fs s rest))
-  none-writes is calls = write-more serves state leads r core core hub hub' watch watch' serial written.NotNow piece rest trans (record { calls = calls; led = led; calm = refl; goes = refl }) st (written_is written.NotNow tt)
+  none-writes is calls = write-more serves state leads r core core hub hub' watch watch' serial written.NotNow piece rest trans (record { calls = calls; led = led; calm = refl; goes = refl; answered = refl }) st (written_is written.NotNow tt)
       (sym (sets-write watch watch' serial seen (total st.judge.state.routed) seen_is is)) (changed-seen watch watch' serial (WritesDrained seen) (total st.judge.state.routed) seen_is is st.seen) (changed-serials watch watch' serial (WritesDrained seen) is)
       (moves-none r.origin st.judge.latest st.judge.state (act.Write serial piece written.NotNow) refl refl refl st.reached) st.served

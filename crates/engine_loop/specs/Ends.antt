@@ -1,5 +1,6 @@
 -- How a run of the loop ends, and the closings at its end.
 use Rattle.std.specs.Prelude.{◌≡◌, ℕ, ◌≤◌, Bool, true, false, List, [], Result, Ok, Err}
+use Rattle.std.specs.List.{list_all}
 use Rattle.share_base.specs.Fronts.{IsFront}
 use Rattle.share_base.specs.Writing.{SinkState}
 use Rattle.hub_acts.specs.declared.act.Act.{Act}
@@ -13,6 +14,7 @@ use Rattle.machine.specs.Readings.{is_over}
 use Rattle.reached_states.specs.Reaching.{Reached}
 use Rattle.attentive_acts.specs.Places.{Waits, Leaves}
 use Rattle.attentive_acts.specs.Judging.{Judge, leaving}
+use Rattle.attentive_acts.specs.Offered.{is_ready}
 use Rattle.engine_loop.specs.declared.serve_end.ServeEnd.{ServeEnd}
 use Rattle.engine_loop.specs.declared.serve_end.ServeEnd.TheVariants as ends
 use Rattle.engine_loop.specs.Stages.{Course, Made, first_of, waits_in}
@@ -21,7 +23,8 @@ use Rattle.engine_loop.specs.Turns.{EndsInWait, Ended}
 
 -- where so many turns may be made, the acts of the turns, which judged so, lead to that end
 abbrev pub EndsBy : ServeEnd → ℕ → List Act → Judge → Type 0
-EndsBy ends.Quit turns run j = (is_over j.state ≡ true) × (j.place ≡ Leaves [])
+EndsBy ends.Quit turns run j =
+    (is_over j.state ≡ true) × (j.place ≡ Leaves []) × (list_all is_ready run ≡ true)
 EndsBy ends.Over turns run j = EndsInWait waited.Over run
 EndsBy ends.HubFault turns run j = EndsInWait waited.Failed run
 EndsBy ends.TurnsSpent turns run j = (waits_in run ≡ turns) × (j.place ≡ Waits)

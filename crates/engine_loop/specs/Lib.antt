@@ -3,3 +3,4 @@ pub mod Stages
 pub mod Turns
 pub mod Ends
 pub mod Serving
+pub mod Headline

@@ -1,5 +1,6 @@
 -- What a run of the loop makes of its engine, its hub and its sink.
-use Rattle.std.specs.Prelude.{◌≡◌, ℕ, ◌≤◌, List, [], ◌++◌}
+use Rattle.std.specs.Prelude.{◌≡◌, ℕ, ◌≤◌, true, List, [], ◌++◌}
+use Rattle.std.specs.List.{list_all}
 use Rattle.share_base.specs.Counts.{Rises}
 use Rattle.share_base.specs.Fronts.{IsFront}
 use Rattle.share_base.specs.Writing.{SinkState}
@@ -10,6 +11,7 @@ use Rattle.machine.specs.Logs.{log_text}
 use Rattle.reached_states.specs.Reaching.{Origin, start_of}
 use Rattle.attentive_acts.specs.Places.{Leaves}
 use Rattle.attentive_acts.specs.Judging.{Judge, Follows, judged, first_judge, leaving}
+use Rattle.attentive_acts.specs.Offered.{is_answered}
 use Rattle.engine_loop.specs.declared.serve_end.ServeEnd.{ServeEnd}
 use Rattle.engine_loop.specs.declared.serve_end.ServeEnd.TheVariants as ends
 use Rattle.engine_loop.specs.Stages.{waits_in, known_with}
@@ -51,7 +53,8 @@ IsIn departs end core s = (front : List ℕ) × departs core front s
 
 -- ---- a run
 
--- the acts of the turns and then those of the closings were due, one after another
+-- the acts of the turns and then those of the closings were due, one after another, and no write
+-- answered that memory ran out
 pub record Serves {E H : Type 0} (departs : E → List ℕ → State → Type 0) (state : H → HubState)
     (leads : H → H → Type 0) (o : Origin) (turns : ℕ) (end : ServeEnd) (core : E) (old new : H)
     (sink sink' : SinkState) : Type 0 where
@@ -62,6 +65,7 @@ pub record Serves {E H : Type 0} (departs : E → List ℕ → State → Type 0)
   pub known : (state new).acts ≡ known_with (run ++ leaves) (state old).acts
   pub attentive : Follows (first_judge (start_of o)) run
   pub judges : judged (first_judge (start_of o)) run ≡ judge
+  pub answered : list_all is_answered run ≡ true
   pub leave : Follows (leaving judge) leaves
   pub left : judged (leaving judge) leaves ≡ last
   pub whole : IsWhole end last

@@ -1,5 +1,6 @@
 -- How far a run of the loop has come.
 use Rattle.std.specs.Prelude.{◌≡◌, ℕ, ◌≤◌, Bool, true, false, List, ◌++◌, count_by, Option, None, Some, Result, Ok, Err}
+use Rattle.std.specs.List.{list_all}
 use Rattle.std.specs.Option.{option_map}
 use Rattle.share_base.specs.declared.out_of_memory.OutOfMemory.{OutOfMemory}
 use Rattle.share_base.specs.Fronts.{IsFront}
@@ -16,6 +17,7 @@ use Rattle.attentive_acts.specs.Flags.{Flags, has_more}
 use Rattle.machine.specs.Readings.{closing}
 use Rattle.attentive_acts.specs.Places.{Place, Waits, at_closes, at_turn_end}
 use Rattle.attentive_acts.specs.Judging.{Judge, Follows, judged, first_judge}
+use Rattle.attentive_acts.specs.Offered.{is_answered, is_ready}
 use Rattle.engine_loop.specs.declared.watch.Watch.{Watch}
 use Rattle.engine_loop.specs.Watches.{flags_of, serials_in, AreSeen}
 
@@ -32,22 +34,28 @@ waits_in acts = count_by is_wait acts
 abbrev pub known_with : List Act → Option (List Act) → Option (List Act)
 known_with acts known = option_map (λ before. before ++ acts) known
 
--- acts that were due, one after another
+-- acts that were due, one after another; no write answered that memory ran out
 pub record Made (first : Judge) (old new : HubState) (acts : List Act) (last : Judge) : Type 0 where
   pub follows : Follows first acts
   pub judges : judged first acts ≡ last
+  pub answered : list_all is_answered acts ≡ true
   pub known : new.acts ≡ known_with acts old.acts
 
 -- ---- a run
 
--- what it began with, the text of the log that was cleared, how many waits were made, and whether
--- the latest one failed
+-- what it began with, the text of the log that was cleared, how many waits were made, whether the
+-- latest one failed, and whether all were ready
 pub record Course (H : Type 0) : Type 0 where
   pub origin : Origin
   pub hub : H
   pub front : List ℕ
   pub waits : ℕ
   pub failed : Bool
+  pub ready : Bool
+
+-- no wait ended the turns
+abbrev pub GoesWell : {H : Type 0} → Course H → Type 0
+GoesWell r = (r.failed ≡ false) × (r.ready ≡ true)
 
 abbrev pub first_of : {H : Type 0} → Course H → Judge
 first_of r = first_judge (start_of r.origin)
@@ -61,6 +69,7 @@ pub record Stage {E H : Type 0} (serves : E → List ℕ → State → Type 0) (
   pub judge : Judge
   pub made : Made (first_of r) (state r.hub) (state hub) acts judge
   pub waits : waits_in acts ≡ r.waits
+  pub ready : list_all is_ready acts ≡ r.ready
   pub faults : Counts r.failed (state r.hub).faults (state hub).faults
   pub led : leads r.hub hub
   pub latest : judge.latest ≡ (state hub).latest

@@ -20,7 +20,7 @@ use Rattle.attentive_acts.specs.Judging.{Judge}
 use Rattle.engine_loop.specs.declared.serve_end.ServeEnd.{ServeEnd}
 use Rattle.engine_loop.specs.declared.serve_end.ServeEnd.TheVariants as ends
 use Rattle.engine_loop.specs.declared.watch.Watch.{Watch}
-use Rattle.engine_loop.specs.Stages.{Course, Stage, Cut, Is, IsWaiting}
+use Rattle.engine_loop.specs.Stages.{Course, GoesWell, Stage, Cut, Is, IsWaiting}
 
 -- ---- the last wait
 
@@ -36,15 +36,19 @@ HasEnded answer acts j = EndsInWait answer acts × (j.place ≡ Leaves (serials 
 abbrev pub waited_once : {H : Type 0} → Bool → Course H → Course H
 waited_once failed r = record r { waits = r.waits + 1; failed = failed }
 
+-- and the wait ended the turns
+abbrev pub ended_once : {H : Type 0} → Bool → Course H → Course H
+ended_once failed r = record r { waits = r.waits + 1; failed = failed; ready = false }
+
 -- what a wait leads to
 abbrev pub AfterWait : {E H : Type 0} → (E → List ℕ → State → Type 0) → (H → HubState)
     → (H → H → Type 0) → Course H → Result (Unit {0}) ServeEnd → E → H → Watch → Type 0
 AfterWait serves state leads r (Ok done) core hub watch =
     Stage serves state leads (waited_once false r) core hub watch (Is (λ fs s. Asks))
 AfterWait serves state leads r (Err ends.Over) core hub watch =
-    Stage serves state leads (waited_once false r) core hub watch (HasEnded waited.Over)
+    Stage serves state leads (ended_once false r) core hub watch (HasEnded waited.Over)
 AfterWait serves state leads r (Err ends.HubFault) core hub watch =
-    Stage serves state leads (waited_once true r) core hub watch (HasEnded waited.Failed)
+    Stage serves state leads (ended_once true r) core hub watch (HasEnded waited.Failed)
 AfterWait serves state leads r (Err ends.OutOfMemory) core hub watch = Cut state leads r hub
 AfterWait serves state leads r (Err end) core hub watch = ⊥
 
@@ -101,9 +105,10 @@ abbrev pub Ended : {E H : Type 0} → (E → List ℕ → State → Type 0) → 
 Ended serves state leads r ends.Quit core hub watch old new =
     Logged serves state leads r core hub watch old new HasQuit
 Ended serves state leads r ends.Over core hub watch old new =
-    Logged serves state leads r core hub watch old new (HasEnded waited.Over)
+    Logged serves state leads (record r { ready = false }) core hub watch old new
+    (HasEnded waited.Over)
 Ended serves state leads r ends.HubFault core hub watch old new =
-    Logged serves state leads (record r { failed = true }) core hub watch old new
+    Logged serves state leads (record r { failed = true; ready = false }) core hub watch old new
     (HasEnded waited.Failed)
 Ended serves state leads r ends.TurnsSpent core hub watch old new =
     Logged serves state leads r core hub watch old new IsWaiting
@@ -156,11 +161,11 @@ AfterTurn serves state leads r (Err end) core hub watch old new P =
 abbrev pub IsLoggedSomewhere : {E H : Type 0} → (E → List ℕ → State → Type 0) → (H → HubState)
     → (H → H → Type 0) → E → H → Watch → SinkState → (List Act → Judge → Type 0) → Type 0
 IsLoggedSomewhere {H = H} serves state leads core hub watch new P = (old : SinkState)
-    × (r : Course H) × (r.failed ≡ false) × Logged serves state leads r core hub watch old new P
+    × (r : Course H) × GoesWell r × Logged serves state leads r core hub watch old new P
 
 -- on some course no wait was made yet
 abbrev pub IsStarted : {E H : Type 0} → (E → List ℕ → State → Type 0) → (H → HubState)
     → (H → H → Type 0) → E → H → Watch → SinkState → Type 0
 IsStarted {H = H} serves state leads core hub watch new = (old : SinkState) × (r : Course H)
-    × (r.failed ≡ false) × (r.waits ≡ 0)
+    × GoesWell r × (r.waits ≡ 0)
     × Logged serves state leads r core hub watch old new IsWaiting

@@ -4,7 +4,7 @@ ghost use Rattle.std.specs.Prelude.{◌≡◌, ℕ, [], false};
 ghost use Rattle.share_base.specs.Writing.{SinkState};
 ghost use Rattle.reached_states.specs.OpenSerials.{Rise};
 ghost use Rattle.engine_loop.specs.Watches.{serials_in};
-ghost use Rattle.engine_loop.specs.Stages.{Course};
+ghost use Rattle.engine_loop.specs.Stages.{Course, GoesWell};
 ghost use Rattle.engine_loop.specs.Ends.{AfterTurns, is_failure};
 ghost use Rattle.reached_states.specs.Reaching.{Origin, start_of};
 ghost use Rattle.engine_loop.specs.Serving.{IsNewHub, Serves};
@@ -31,7 +31,7 @@ fn depart<E: Engine, H: Hub, K: Sink>(
     requires goes { is_failure end ≡ false }
     requires same { serials_in watch.now ≡ (H.state hub.old).open_now }
     requires rise { Rise 0 (serials_in watch.now) }
-    ensures { (r : Course H) (turns : ℕ) (old : SinkState) → r.failed ≡ false
+    ensures { (r : Course H) (turns : ℕ) (old : SinkState) → GoesWell r
         → AfterTurns E.serves H.state H.leads r turns end core.old hub.old watch.now
         old (K.state out.old)
         → Serves E.departs H.state H.leads r.origin turns result core.new r.hub hub.new

@@ -4,7 +4,7 @@ ghost use Rattle.std.specs.Prelude.{◌≡◌, ◌<◌, false, length};
 ghost use Rattle.share_base.specs.Writing.{SinkState};
 ghost use Rattle.attentive_acts.specs.Judging.{most_moved};
 ghost use Rattle.engine_loop.specs.Watches.{serials_in};
-ghost use Rattle.engine_loop.specs.Stages.{Course, IsWaiting};
+ghost use Rattle.engine_loop.specs.Stages.{Course, GoesWell, IsWaiting};
 ghost use Rattle.engine_loop.specs.Turns.{LogsOn, Heeds, EndsAtFailure, AfterTurn};
 ghost use Rattle.engine_loop.specs.Turns.{Logged, IsLoggedSomewhere, IsStarted, waited_once};
 ghost use Rattle.engine_loop.specs.Ends.{AfterTurns, GoesOn, GoesOnAfter};
@@ -64,7 +64,7 @@ fn turn<E: Engine, H: Hub, K: Sink>(
     requires there { IsLoggedSomewhere E.serves H.state H.leads core.old hub.old watch.old
         (K.state out.old) IsWaiting }
     ensures same { GoesOnAfter result (serials_in watch.new ≡ (H.state hub.new).open_now) }
-    ensures turns { (old : SinkState) (r : Course H) → r.failed ≡ false
+    ensures turns { (old : SinkState) (r : Course H) → GoesWell r
         → Logged E.serves H.state H.leads r core.old hub.old watch.old
         old (K.state out.old) IsWaiting
         → AfterTurn E.serves H.state H.leads (waited_once false r) result
@@ -97,7 +97,7 @@ pub(crate) fn take_turns<E: Engine, H: Hub, K: Sink>(
     requires there { IsStarted E.serves H.state H.leads core.old hub.old watch.old
         (K.state out.old) }
     ensures same { GoesOn result (serials_in watch.new ≡ (H.state hub.new).open_now) }
-    ensures turns { (old : SinkState) (r : Course H) → r.failed ≡ false → r.waits ≡ 0
+    ensures turns { (old : SinkState) (r : Course H) → GoesWell r → r.waits ≡ 0
         → Logged E.serves H.state H.leads r core.old hub.old watch.old
         old (K.state out.old) IsWaiting
         → AfterTurns E.serves H.state H.leads r turns result core.new hub.new watch.new

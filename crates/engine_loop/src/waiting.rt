@@ -1,12 +1,12 @@
 //! The wait of a turn, and its moment.
 
-ghost use Rattle.std.specs.Prelude.{◌≡◌, ◌≤◌, ◌<◌, false, Contains, length};
+ghost use Rattle.std.specs.Prelude.{◌≡◌, ◌≤◌, ◌<◌, Contains, length};
 ghost use Rattle.attentive_acts.specs.Flags as flags;
 ghost use Rattle.attentive_acts.specs.Judging as judging;
 ghost use Rattle.attentive_acts.specs.Judging.{longest_wait};
 ghost use Rattle.attentive_acts.specs.Places.{Asks, at_accepts, most_accepts};
 ghost use Rattle.engine_loop.specs.Watches.{serials_in};
-ghost use Rattle.engine_loop.specs.Stages.{Course, Stage, Is, IsWaiting, Passes, Answers, HasMore};
+ghost use Rattle.engine_loop.specs.Stages.{Course, GoesWell, Stage, Is, IsWaiting, Passes, Answers, HasMore};
 ghost use Rattle.engine_loop.specs.Turns.{AfterWait};
 
 use crate::serve_end::ServeEnd;
@@ -96,7 +96,7 @@ pub(crate) fn wait_once<E: Engine, H: Hub>(
     requires few { length (H.state hub.old).open_now < 128 }
     requires same { serials_in watch.old ≡ (H.state hub.old).open_now }
     ensures same { serials_in watch.new ≡ (H.state hub.new).open_now }
-    ensures waits { (r : Course H) → r.failed ≡ false
+    ensures waits { (r : Course H) → GoesWell r
         → Stage E.serves H.state H.leads r core.now hub.old watch.old IsWaiting
         → AfterWait E.serves H.state H.leads r result core.now hub.new watch.new }
 {

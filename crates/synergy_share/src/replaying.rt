@@ -1,9 +1,10 @@
 //! The command that drives a server by a trace.
 
 ghost use Rattle.std.specs.Prelude.{◌≡◌, length};
-ghost use Rattle.script_screen.specs.Scripts.{ScreensBelow};
+ghost use Rattle.script_screen.specs.Scripts.{IsScript, ScreensBelow};
 ghost use Rattle.synergy_share.specs.Causes.{FileCauses};
 ghost use Rattle.synergy_share.specs.Checking.{OverCounts};
+ghost use Rattle.synergy_share.specs.Headline.{SharesIfRun};
 ghost use Rattle.synergy_share.specs.Replaying.{Replays, given_by, status_of_run};
 
 use crate::checking::read_config;
@@ -28,6 +29,13 @@ pub(crate) fn status_of(end: ServeEnd) -> Status
     }
 }
 
+/// Does nothing. Its contract says what every script keeps.
+fn assure_script(script: &Script)
+    ensures { IsScript script.now }
+{
+    let _ = script.w();
+}
+
 /// Reads a configuration, a script and a trace, each whole and once and each judged before the next
 /// is read; runs the server over the trace, and writes its log.
 ///
@@ -47,6 +55,9 @@ pub fn run_replay<F: Files, K: Sink>(
     ensures replays { Replays result
         (given_by (F.told files.old) config.now script.now trace.now)
         (F.calls files.old) (F.calls files.new) (K.state out.old) (K.state out.new) }
+    ensures headline { SharesIfRun result
+        (given_by (F.told files.old) config.now script.now trace.now)
+        (K.state out.old) (K.state out.new) }
     ensures overs { OverCounts result (F.overs files.old) (F.overs files.new) }
     ensures causes { FileCauses result (F.faults files.old) (F.faults files.new) (K.state out.old)
         (K.state out.new) }
@@ -63,5 +74,7 @@ pub fn run_replay<F: Files, K: Sink>(
         Ok(trace) => trace,
         Err(end) => return end,
     };
+    config.assure_sound();
+    assure_script(&script);
     status_of(replay(alloc, config, script, trace, out))
 }

@@ -7,6 +7,7 @@ ghost use Rattle.synergy_share.specs.Words.{Leaves, way_of};
 ghost use Rattle.synergy_share.specs.Commands.{Reads, Stops, Releases};
 ghost use Rattle.synergy_share.specs.Checking.{Checks, ReadsOnce, OverCounts};
 ghost use Rattle.synergy_share.specs.Replaying.{Replays, given_by};
+ghost use Rattle.synergy_share.specs.Headline.{SharesIfRun};
 ghost use Rattle.synergy_share.specs.Causes.{AllCauses};
 
 use crate::checking::run_check;
@@ -46,6 +47,10 @@ pub fn run<F: Files, S: Source, K: Sink>(
         → Names (Replay config script trace) words.now
         → Replays result (given_by (F.told files.old) config script trace)
         (F.calls files.old) (F.calls files.new) (K.state out.old) (K.state out.new) }
+    ensures headline { (config script trace : List ℕ)
+        → Names (Replay config script trace) words.now
+        → SharesIfRun result (given_by (F.told files.old) config script trace)
+        (K.state out.old) (K.state out.new) }
     ensures replay_overs { (config script trace : List ℕ)
         → Names (Replay config script trace) words.now
         → OverCounts result (F.overs files.old) (F.overs files.new) }

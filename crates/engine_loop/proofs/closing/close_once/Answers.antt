@@ -15,13 +15,13 @@ returns-in_err-close-clause-passes g c = λ r st.
 pub returns-in_err-closed-clause-passes : goal.returns-in_err-closed-clause-passes
 returns-in_err-closed-clause-passes g c = λ r st.
     after-err c.from_residual-in_err-closed.result _ c.from_residual-in_err-closed.ensures.0 (close-cut g.E.Engine.serves g.H.Hub.state g.H.Hub.leads r c.args.core.now c.args.hub.now c.close.new.self c.args.watch.now c.args.serial g.H.Hub.goes_on
-    (record { calls = c.in_ok-close.ensures.calls; led = c.in_ok-close.ensures.leads; calm = refl; goes = refl }) st
+    (record { calls = c.in_ok-close.ensures.calls; led = c.in_ok-close.ensures.leads; calm = refl; goes = refl; answered = refl }) st
     (moves-closed r.origin st.judge.latest st.judge.state c.args.serial st.reached (closing-is-open st.judge.state c.args.serial st.there.1)))
 
 pub returns-clause-passes : goal.returns-clause-passes
 returns-clause-passes g c = λ r st.
     close-more g.E.Engine.serves g.H.Hub.state g.H.Hub.leads r c.args.core.now c.closed.new.self c.args.hub.now c.close.new.self c.args.watch.now c.close-2.new.self c.args.serial g.H.Hub.goes_on
-    (record { calls = c.in_ok-close.ensures.calls; led = c.in_ok-close.ensures.leads; calm = refl; goes = refl }) st c.close-2.ensures.streams c.close-2.ensures.listens
+    (record { calls = c.in_ok-close.ensures.calls; led = c.in_ok-close.ensures.leads; calm = refl; goes = refl; answered = refl }) st c.close-2.ensures.streams c.close-2.ensures.listens
     (moves-closed r.origin st.judge.latest st.judge.state c.args.serial st.reached (closing-is-open st.judge.state c.args.serial st.there.1))
     (c.in_ok-closed.ensures.serves r.origin st.judge.latest r.front st.judge.state st.reached st.there.1 st.served)
 

@@ -1,0 +1,4 @@
+pub mod Moments
+pub mod Taking
+pub mod OneTarget
+pub mod Sharing
