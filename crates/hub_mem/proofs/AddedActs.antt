@@ -20,12 +20,12 @@ story-more lines acts a = fold-append story_after (record { scenes = []; ahead =
 
 -- ---- counts stay below their last value
 
-abbrev most : ℕ
+abbrev pub most : ℕ
 most = 2 ^ 64 - 1
 
-record IsWithin (t : Tally) : Type 0 where
-  faults : t.faults ≤ most
-  breaks : t.breaks ≤ most
+pub record IsWithin (t : Tally) : Type 0 where
+  pub faults : t.faults ≤ most
+  pub breaks : t.breaks ≤ most
 
 more_if : (b : Bool) (n : ℕ) → n ≤ most → one_more_if b n ≤ most
 more_if true n h = omega arith
@@ -35,10 +35,10 @@ within : (t : Tally) (acts : List Act) → IsWithin t → IsWithin (fold tally_a
 within t [] h = h
 within t (a ∷ acts) h = within (tally_after t a) acts (record { faults = more_if (is_fault a) t.faults h.faults; breaks = more_if (is_break a) t.breaks h.breaks })
 
-within_all : (acts : List Act) → IsWithin (tally_of acts)
+pub within_all : (acts : List Act) → IsWithin (tally_of acts)
 within_all acts = within no_calls acts (record { faults = omega arith; breaks = omega arith })
 
-counts : (b : Bool) (n : ℕ) → n ≤ most → Counts b n (one_more_if b n)
+pub counts : (b : Bool) (n : ℕ) → n ≤ most → Counts b n (one_more_if b n)
 counts true n h = (omega arith, omega arith)
 counts false n h = refl
 

@@ -18,14 +18,33 @@ use Rattle.hub_acts.specs.declared.answers.WriteAnswer.TheVariants as written
 use Rattle.hub_acts.specs.Acts.{listen_act, wait_act, now_act, accept_act, read_act, write_act, close_act, bytes_read}
 use Rattle.hub_mem.specs.Streams.{Stream}
 use Rattle.hub_mem.specs.Answers.{Played, Plays, trace_listen, trace_wait, trace_now, trace_accept, trace_read, trace_write, trace_close, read_of, end_given, stream_of}
-use Rattle.hub_mem.specs.Playing.{PlaysOn, plays_stay, given_by}
+use Rattle.hub_mem.specs.Playing.{PlaysBy, PlaysOn, no-calls-play, given_by}
+
+-- ---- by any rule that gives the acts
+
+pub none-plays : (given_act : Played → Act → Act) (expected : Act) (p q : Played)
+    → Plays expected None p q → PlaysBy given_act p q
+none-plays given_act expected p q h =
+    subst (λ (r : Played). PlaysBy given_act p r) (sym h.after) (no-calls-play given_act p)
+
+pub one-plays : (given_act : Played → Act → Act) (expected a : Act) (p q : Played)
+    → given_act p a ≡ expected → Plays expected (Some a) p q → PlaysBy given_act p q
+one-plays given_act expected a p q e h =
+    subst (λ (r : Played). PlaysBy given_act p r) (sym h.after) (record {
+      lines = refl;
+      failing = refl;
+      made = a ∷ [];
+      acts = refl;
+      given = (h.answers ∙ sym e, tt);
+    })
+
+-- ---- on a hub
 
 none_led : (expected : Act) (p q : Played) → Plays expected None p q → PlaysOn p q
-none_led expected p q h = subst (λ (r : Played). PlaysOn p r) (sym h.after) (plays_stay p)
+none_led expected p q h = none-plays given_by expected p q h
 
 act_led : (expected a : Act) (p q : Played) → given_by p a ≡ expected → Plays expected (Some a) p q → PlaysOn p q
-act_led expected a p q e h =
-    subst (λ (r : Played). PlaysOn p r) (sym h.after) (record { lines = refl; failing = refl; made = a ∷ []; acts = refl; given = (h.answers ∙ sym e, tt) })
+act_led expected a p q e h = one-plays given_by expected a p q e h
 
 pub listened : (port : ℕ) (answer : Result (Unit {0}) CallFault) (p q : Played) → Plays (trace_listen p port) (listen_act port answer) p q → PlaysOn p q
 listened port (Err fault.OutOfMemory) p q h = none_led (trace_listen p port) p q h

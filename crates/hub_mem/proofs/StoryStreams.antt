@@ -42,7 +42,7 @@ one_seen : (b : Bool) (l : TraceLine) (s : Stream) (later : List ℕ)
 one_seen true l s later = one_heard l s later
 one_seen false l s later = refl
 
-all_seen : (role : Role) (turn rest : List TraceLine) (s : Stream)
+pub all_seen : (role : Role) (turn rest : List TraceLine) (s : Stream)
     → feed_after_all role.has_line turn (record { stream = s; coming = coming_in role.has_line (turn ++ rest) }) ≡ record { stream = fold (stream_after role) s (came_all turn); coming = coming_in role.has_line rest }
 all_seen role [] rest s = refl
 all_seen role (l ∷ turn) rest s =

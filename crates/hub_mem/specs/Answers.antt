@@ -22,7 +22,7 @@ use Rattle.hub_acts.specs.Acts.{add_act}
 use Rattle.hub_acts.specs.Hubs.{HubState}
 use Rattle.hub_mem.specs.Tallies.{Tally, tally_of}
 use Rattle.hub_mem.specs.Stories.{Story, story_of, next_turn, clock_in, joined_in}
-use Rattle.hub_mem.specs.Streams.{Stream, connection_of, stream_in}
+use Rattle.hub_mem.specs.Streams.{Stream, connection_of, front_length, stream_in}
 
 -- a trace, the numbers of the calls that are to fail, and the acts so far
 pub record Played : Type 0 where
@@ -127,8 +127,7 @@ end_given p serial = if is_to_fail p then Some read.Failed else end_if_read (str
 
 abbrev pub front_read : ℕ → ℕ → Stream → Act
 front_read serial room s =
-    act.Read serial room (read.Got (min room (length s.unread)))
-    (take (min room (length s.unread)) s.unread)
+    act.Read serial room (read.Got (front_length room s)) (take (front_length room s) s.unread)
 
 abbrev pub read_of : ℕ → ℕ → Option ReadAnswer → Stream → Act
 read_of serial room (Some answer) s = act.Read serial room answer []

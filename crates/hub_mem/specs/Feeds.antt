@@ -1,11 +1,11 @@
 -- A stream with the bytes that have not come yet.
-use Rattle.std.specs.Prelude.{ℕ, Bool, if◌then◌else◌, List, [], ◌++◌, take, drop, length}
+use Rattle.std.specs.Prelude.{◌≡◌, ℕ, Bool, if◌then◌else◌, List, [], ◌++◌, take, drop, length}
 use Rattle.std.specs.List.{flat_map}
 use Rattle.script_screen.specs.declared.trace.TraceLine.{TraceLine}
 use Rattle.script_screen.specs.declared.trace.TraceLine.TheVariants as line
 use Rattle.hub_acts.specs.declared.act.Act.{Act}
 use Rattle.hub_mem.specs.Stories.{Story}
-use Rattle.hub_mem.specs.Streams.{Stream, Role, new_stream, heard, moved, stream_in}
+use Rattle.hub_mem.specs.Streams.{Stream, Role, front_length, new_stream, heard, moved, stream_in}
 
 pub record Feed : Type 0 where
   pub stream : Stream
@@ -21,6 +21,12 @@ bytes_of l = []
 -- the bytes that lines have for it
 abbrev pub coming_in : (TraceLine → Bool) → List TraceLine → List ℕ
 coming_in has_line lines = flat_map (λ l. if has_line l then bytes_of l else []) lines
+
+-- a read copied these bytes into its buffer: the front of what is unread, as much as has room
+pub record IsFront (s : Stream) (bytes old new : List ℕ) : Type 0 where
+  pub count : length bytes ≡ front_length (length old) s
+  pub front : bytes ≡ take (front_length (length old) s) s.unread
+  pub copied : take (front_length (length old) s) new ≡ bytes
 
 -- where a story leaves it
 abbrev pub feed_in : Role → Story → Feed

@@ -35,6 +35,15 @@ turn_length (l ∷ ls) = 1 + prefix_len is_in_turn ls
 abbrev pub next_turn : List TraceLine → List TraceLine
 next_turn ahead = take (turn_length ahead) ahead
 
+-- the lines of a trace, and how many of them have come
+pub record TraceAt : Type 0 where
+  pub lines : List TraceLine
+  pub at : ℕ
+
+-- the next turn came
+abbrev pub passed : TraceAt → TraceAt
+passed t = record t { at = t.at + turn_length (drop t.at t.lines) }
+
 -- a wait that is ready brings the next turn
 abbrev pub brings_turn : Act → Bool
 brings_turn (act.Wait ms waited.Ready marks) = true

@@ -1,5 +1,5 @@
 -- One stream: what can be read from it, how it ends, and what it takes.
-use Rattle.std.specs.Prelude.{ℕ, ◌-◌, Bool, true, false, not, ◌&&◌, ◌==◌, if◌then◌else◌, List, [], ◌++◌, drop, Option, Some, None}
+use Rattle.std.specs.Prelude.{ℕ, ◌-◌, Bool, true, false, not, ◌&&◌, ◌==◌, if◌then◌else◌, List, [], ◌++◌, drop, length, min, Option, Some, None}
 use Rattle.std.specs.List.{fold}
 use Rattle.std.specs.Option.{option_map}
 use Rattle.script_screen.specs.declared.trace.TraceLine.{TraceLine}
@@ -30,6 +30,10 @@ heard (line.Got c bytes) s = record s { unread = s.unread ++ bytes }
 heard (line.End c) s = record s { has_ended = true }
 heard (line.Fail c) s = record s { has_failed = true }
 heard (line.Room c room) s = record s { room = Some room }
+
+-- how many bytes a read into a buffer of that length gives
+abbrev pub front_length : ℕ → Stream → ℕ
+front_length room s = min room (length s.unread)
 
 abbrev pub with_read : ℕ → Stream → Stream
 with_read n s = record s { unread = drop n s.unread }

@@ -13,7 +13,7 @@ use std::marker::Model;
 
 /// The acts that were made, with what they come to. Contracts see the list of acts.
 #[derive(Drop)]
-pub(crate) struct Ledger {
+pub struct Ledger {
     acts: Vec<Act>,
     counters: Counters,
 }
@@ -32,7 +32,7 @@ impl Model for Ledger {
 
 impl Ledger {
     /// No act yet.
-    pub(crate) fn new(alloc: Global) -> Ledger
+    pub fn new(alloc: Global) -> Ledger
         ensures { result ≡ [] }
     {
         Ledger {
@@ -43,7 +43,7 @@ impl Ledger {
 
     /// Adds an act. On `OutOfMemory` nothing changed.
     #[tactic(auto, using(crate::proofs::AddedActs::tally_more))]
-    pub(crate) fn add(&mut self, act: Act) -> Result<(), OutOfMemory>
+    pub fn add(&mut self, act: Act) -> Result<(), OutOfMemory>
         ensures ok { OnOk result (self.new ≡ self.old ++ act ∷ []) }
         ensures err { OnErr result (self.new ≡ self.old) }
     {
@@ -54,14 +54,14 @@ impl Ledger {
     }
 
     /// The acts, first to last.
-    pub(crate) fn acts(&self) -> &[Act]
+    pub fn acts(&self) -> &[Act]
         ensures { result.now ≡ self.now }
     {
         self.acts.as_slice()
     }
 
     /// Whether the next numbered call is one of those that are to fail.
-    pub(crate) fn is_to_fail(&self, failing: &[u64]) -> bool
+    pub fn is_to_fail(&self, failing: &[u64]) -> bool
         ensures { result ≡ list_any (λ n. n == one_more (tally_of self.now).calls) failing.now }
     {
         failing.contains(&self.counters.calls().saturating_add(1))

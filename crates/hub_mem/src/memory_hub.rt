@@ -20,13 +20,12 @@ ghost use Rattle.hub_acts.specs.Hubs.{HubCalls, FitsWait, FitsAccept, FitsRead, 
 ghost use Rattle.hub_acts.specs.declared.act.Act.TheVariants as act;
 ghost use Rattle.hub_acts.specs.declared.answers.WriteAnswer.TheVariants as written;
 ghost use Rattle.hub_mem.specs.Stories.{clock_in, joined_in};
-ghost use Rattle.hub_mem.specs.Answers.{Played, Plays, hub_state, is_to_fail, tally, story, trace_listen, trace_wait, trace_now, trace_accept, trace_read, trace_write, trace_close, listen_given, end_given, accept_given, write_given, end_answer, write_answer, front_read, stream_of};
+ghost use Rattle.hub_mem.specs.Answers.{Played, Plays, hub_state, is_to_fail, tally, story, trace_listen, trace_wait, trace_now, trace_accept, trace_read, trace_write, trace_close, listen_given, end_given, accept_given, write_given, front_read, stream_of};
 ghost use Rattle.hub_mem.specs.Playing.{PlaysOn, plays_stay, plays_go_on};
 ghost use Rattle.hub_mem.specs.Standing.{IsQuiet, IsNoTurn, IsNoByte, IsNoByteOrNoMemory, IsNotTaken, IsNotTakenOrNoMemory, none_read_act};
 
 use crate::ledger::Ledger;
 use crate::playback::Playback;
-use crate::stream::Stream;
 use crate::turn_marks::report_turn;
 use hub_acts::{
     AcceptAnswer, Act, CallFault, Hub, Marks, ReadAnswer, ReadyList, Waited, WriteAnswer,
@@ -192,13 +191,11 @@ impl MemoryHub {
             (read_act serial buf.new result) self.old self.new }
     {
         let room = buf.len();
-        let unread = self.playback.stream(serial).unread();
-        let count = room.min(unread.len());
-        let mut bytes = Octets::new(self.alloc);
-        let Ok(()) = bytes.extend(&unread[..count]) else {
+        let stream = self.playback.stream(serial);
+        let Ok(bytes) = stream.copy_front(self.alloc, buf) else {
             return ReadAnswer::OutOfMemory;
         };
-        buf[..count].copy_from_slice(bytes.as_slice());
+        let count = bytes.len();
         let answer = ReadAnswer::Got(count);
         match self.ledger.add(Act::Read {
             serial,
@@ -282,7 +279,7 @@ impl MemoryHub {
         if self.is_to_fail() {
             return WriteAnswer::Failed;
         }
-        room_for(self.playback.stream(serial), offered)
+        self.playback.stream(serial).write_answer(offered)
     }
 
     pub(crate) fn play_listen(&mut self, port: u16) -> Result<(), CallFault>
@@ -377,7 +374,7 @@ impl MemoryHub {
         }
         let stream = self.playback.stream(serial);
         if stream.unread().is_empty() {
-            Some(end_of(stream))
+            Some(stream.end_answer())
         } else {
             None
         }
@@ -401,33 +398,6 @@ impl MemoryHub {
     {
         self.add_quiet(Act::Close { serial })?;
         Ok(())
-    }
-}
-
-/// What a read answers where no byte is there.
-fn end_of(stream: &Stream) -> ReadAnswer
-    ensures { result ≡ end_answer stream.now.stream }
-{
-    if stream.has_failed() {
-        ReadAnswer::Failed
-    } else if stream.has_ended() {
-        ReadAnswer::End
-    } else {
-        ReadAnswer::NotNow
-    }
-}
-
-/// What a write of that many bytes answers.
-fn room_for(stream: &Stream, offered: usize) -> WriteAnswer
-    ensures { result ≡ write_answer offered stream.now.stream }
-{
-    if stream.has_failed() {
-        return WriteAnswer::Failed;
-    }
-    match stream.room() {
-        None => WriteAnswer::Took(offered),
-        Some(0) => WriteAnswer::NotNow,
-        Some(room) => WriteAnswer::Took((offered as u64).min(room) as usize),
     }
 }
 

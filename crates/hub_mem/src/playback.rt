@@ -14,12 +14,12 @@ ghost use Rattle.std.specs.Prelude.{
   IfOk,
   IfSome,
 };
-ghost use Rattle.std.specs.List.{prefix_len};
 ghost use Rattle.script_screen.specs.Traces.{is_join};
-ghost use Rattle.hub_mem.specs.Stories.{is_in_turn, next_turn, story_of, turn_length};
+ghost use Rattle.hub_mem.specs.Stories.{next_turn, story_of};
 ghost use Rattle.hub_mem.specs.Streams.{with_read, with_taken};
 ghost use Rattle.hub_mem.specs.Standing.{Advances, Changes, StandsFor};
 
+use crate::cursor::Cursor;
 use crate::stream::Stream;
 use crate::streams::Streams;
 use script_screen::{Trace, TraceLine};
@@ -30,52 +30,20 @@ use std::marker::Model;
 /// A trace, how many of its lines have come, and its streams. Contracts see a `Stage`.
 #[derive(Drop)]
 pub(crate) struct Playback {
-    trace: Trace,
-    at: usize,
+    cursor: Cursor,
     streams: Streams,
 }
 
 impl Model for Playback {
-    ghost use Rattle.std.specs.Prelude.{◌≤◌, length};
     ghost use Rattle.hub_mem.specs.Standing.{Stage};
 
     ghost Value = { Stage };
 
     ghost view = { λ p. record {
-      lines = p.trace;
-      at = p.at;
+      lines = p.cursor.lines;
+      at = p.cursor.at;
       table = p.streams;
     } };
-
-    ghost invariant = { λ p. p.at ≤ length p.trace };
-}
-
-/// The number of lines of the turn that these lines begin with.
-fn length_of_turn(ahead: &[TraceLine]) -> usize
-    ensures length { result ≡ turn_length ahead.now }
-    ensures within { result ≤ length ahead.now }
-{
-    let Some((_, below)) = ahead.split_first() else {
-        return 0;
-    };
-    1 + lines_in_turn(below)
-}
-
-/// The number of lines before the next turn.
-fn lines_in_turn(lines: &[TraceLine]) -> usize
-    ensures length { result ≡ prefix_len is_in_turn lines.now }
-    ensures within { result ≤ length lines.now }
-{
-    lines
-        .iter()
-        .take_while(|line| belongs_to_turn(line))
-        .count()
-}
-
-fn belongs_to_turn(line: &TraceLine) -> bool
-    ensures { result ≡ is_in_turn line.now }
-{
-    !matches!(line, TraceLine::Turn(_))
 }
 
 /// The number of connections that join.
@@ -86,7 +54,8 @@ fn joins(lines: &[TraceLine]) -> usize
     lines.iter().filter(|line| joins_one(line)).count()
 }
 
-fn joins_one(line: &TraceLine) -> bool
+/// Whether a connection joins at that line.
+pub fn joins_one(line: &TraceLine) -> bool
     ensures { result ≡ is_join line.now }
 {
     matches!(line, TraceLine::Join(_))
@@ -104,8 +73,7 @@ impl Playback {
             streams.add_coming(line)?;
         }
         Ok(Playback {
-            trace,
-            at: 0,
+            cursor: Cursor::new(trace),
             streams,
         })
     }
@@ -114,34 +82,22 @@ impl Playback {
     pub(crate) fn next_turn(&self) -> &[TraceLine]
         ensures { result.now ≡ next_turn (drop self.now.at self.now.lines) }
     {
-        let ahead = self.ahead();
-        &ahead[..length_of_turn(ahead)]
-    }
-
-    /// The lines that have not come.
-    fn ahead(&self) -> &[TraceLine]
-        ensures { result.now ≡ drop self.now.at self.now.lines }
-    {
-        let lines = self.trace.lines();
-        &lines[self.at..]
+        self.cursor.next_turn()
     }
 
     /// Whether all lines have come.
     pub(crate) fn is_over(&self) -> bool
         ensures { result ≡ (length (drop self.now.at self.now.lines) == 0) }
     {
-        self.ahead().is_empty()
+        self.cursor.is_over()
     }
 
     /// Lets the next turn come.
     pub(crate) fn advance(&mut self)
         ensures { Advances self.old self.new }
     {
-        let lines = self.trace.lines();
-        let ahead = &lines[self.at..];
-        let count = length_of_turn(ahead);
-        self.streams.hear_all(&ahead[..count]);
-        self.at += count;
+        self.streams.hear_all(self.cursor.next_turn());
+        self.cursor.pass();
     }
 
     /// How many connections have joined.

@@ -1,18 +1,20 @@
 //! One stream of a trace.
 
-ghost use Rattle.std.specs.Prelude.{◌≡◌, ◌≤◌, ◌++◌, [], length, take, OnOk, OnErr};
+ghost use Rattle.std.specs.Prelude.{◌≡◌, ◌≤◌, ◌++◌, [], length, take, IfOk, OnOk, OnErr};
 ghost use Rattle.hub_mem.specs.Streams.{new_stream, with_read, with_taken};
-ghost use Rattle.hub_mem.specs.Feeds.{with_arrived, feed_heard};
+ghost use Rattle.hub_mem.specs.Feeds.{IsFront, with_arrived, feed_heard};
+ghost use Rattle.hub_mem.specs.Answers.{end_answer, write_answer};
 
+use hub_acts::{ReadAnswer, WriteAnswer};
 use script_screen::TraceLine;
-use share_base::OutOfMemory;
+use share_base::{Octets, OutOfMemory};
 use std::alloc::Global;
 use std::marker::Model;
 
 /// A stream: all bytes that its trace has for it, and how far they came and were read. Contracts
 /// see a `Feed`.
 #[derive(Drop)]
-pub(crate) struct Stream {
+pub struct Stream {
     bytes: Vec<u8>,
     read: usize,
     arrived: usize,
@@ -42,7 +44,7 @@ impl Model for Stream {
 
 impl Stream {
     /// A new stream, for which no bytes come. Later calls allocate from `alloc`.
-    pub(crate) fn new(alloc: Global) -> Stream
+    pub fn new(alloc: Global) -> Stream
         ensures { result ≡ record { stream = new_stream; coming = [] } }
     {
         Stream {
@@ -56,7 +58,7 @@ impl Stream {
     }
 
     /// Adds bytes that come later. On `OutOfMemory` nothing changed.
-    pub(crate) fn add_coming(&mut self, bytes: &[u8]) -> Result<(), OutOfMemory>
+    pub fn add_coming(&mut self, bytes: &[u8]) -> Result<(), OutOfMemory>
         ensures ok { OnOk result
             (self.new ≡ record self.old { coming = self.old.coming ++ bytes.now }) }
         ensures err { OnErr result (self.new ≡ self.old) }
@@ -66,7 +68,7 @@ impl Stream {
     }
 
     /// Hears a line that is for this stream.
-    pub(crate) fn hear(&mut self, line: &TraceLine)
+    pub fn hear(&mut self, line: &TraceLine)
         ensures { self.new ≡ feed_heard line.now self.old }
     {
         match line {
@@ -97,35 +99,53 @@ impl Stream {
     }
 
     /// The bytes that came and were not read.
-    pub(crate) fn unread(&self) -> &[u8]
+    pub fn unread(&self) -> &[u8]
         ensures { result.now ≡ self.now.stream.unread }
     {
         &self.bytes.as_slice()[self.read..self.arrived]
     }
 
-    /// Whether the stream has ended, after the bytes that came.
-    pub(crate) fn has_ended(&self) -> bool
-        ensures { result ≡ self.now.stream.has_ended }
+    /// Copies the bytes that a read gives into the front of `buf`, and returns them.
+    pub fn copy_front(&self, alloc: Global, buf: &mut [u8]) -> Result<Octets, OutOfMemory>
+        ensures { IfOk result (λ bytes. IsFront self.now.stream bytes buf.old buf.new) }
     {
-        self.has_ended
+        let unread = self.unread();
+        let count = buf.len().min(unread.len());
+        let mut bytes = Octets::new(alloc);
+        bytes.extend(&unread[..count])?;
+        buf[..count].copy_from_slice(bytes.as_slice());
+        Ok(bytes)
     }
 
-    /// Whether the stream has failed: its writes at once, and its reads after the bytes that came.
-    pub(crate) fn has_failed(&self) -> bool
-        ensures { result ≡ self.now.stream.has_failed }
+    /// What a read answers where no byte is there.
+    pub fn end_answer(&self) -> ReadAnswer
+        ensures { result ≡ end_answer self.now.stream }
     {
-        self.has_failed
+        if self.has_failed {
+            ReadAnswer::Failed
+        } else if self.has_ended {
+            ReadAnswer::End
+        } else {
+            ReadAnswer::NotNow
+        }
     }
 
-    /// How many bytes more it takes, `None` if there is no limit.
-    pub(crate) fn room(&self) -> Option<u64>
-        ensures { result ≡ self.now.stream.room }
+    /// What a write of that many bytes answers.
+    pub fn write_answer(&self, offered: usize) -> WriteAnswer
+        ensures { result ≡ write_answer offered self.now.stream }
     {
-        self.room
+        if self.has_failed {
+            return WriteAnswer::Failed;
+        }
+        match self.room {
+            None => WriteAnswer::Took(offered),
+            Some(0) => WriteAnswer::NotNow,
+            Some(room) => WriteAnswer::Took((offered as u64).min(room) as usize),
+        }
     }
 
     /// Counts that many bytes as read.
-    pub(crate) fn skip(&mut self, count: usize)
+    pub fn skip(&mut self, count: usize)
         requires { count ≤ length self.old.stream.unread }
         ensures { self.new ≡ record self.old { stream = with_read count self.old.stream } }
     {
@@ -133,7 +153,7 @@ impl Stream {
     }
 
     /// Counts that many bytes as taken.
-    pub(crate) fn take(&mut self, count: usize)
+    pub fn take(&mut self, count: usize)
         ensures { self.new ≡ record self.old { stream = with_taken count self.old.stream } }
     {
         if let Some(room) = self.room {

@@ -34,8 +34,8 @@ pub(crate) struct Streams {
     clock: u64,
 }
 
-/// The connection that a line names.
-fn connection_of(line: &TraceLine) -> Option<u64>
+/// The connection that a line names, `None` for a turn.
+pub fn connection_of(line: &TraceLine) -> Option<u64>
     ensures { (c : ℕ) → names c line.now ≡ is_at result c }
 {
     match line {
@@ -47,8 +47,8 @@ fn connection_of(line: &TraceLine) -> Option<u64>
     }
 }
 
-/// The bytes that a line gives.
-fn bytes_of(line: &TraceLine) -> &[u8]
+/// The bytes that a line gives, none but for `Got`.
+pub fn bytes_of(line: &TraceLine) -> &[u8]
     ensures { result.now ≡ bytes_of line.now }
 {
     match line {

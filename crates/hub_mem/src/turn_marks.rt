@@ -34,13 +34,15 @@ fn gives_room(line: &TraceLine, serial: u64) -> bool
     }
 }
 
-fn is_readable(turn: &[TraceLine], serial: u64) -> bool
+/// Whether the turn has a line by which there may be something to read.
+pub fn is_readable(turn: &[TraceLine], serial: u64) -> bool
     ensures { result ≡ list_any (makes_readable serial) turn.now }
 {
     turn.iter().any(|line| gives_to_read(line, serial))
 }
 
-fn is_writable(turn: &[TraceLine], serial: u64) -> bool
+/// Whether the turn has a line by which there may be room to write.
+pub fn is_writable(turn: &[TraceLine], serial: u64) -> bool
     ensures { result ≡ list_any (makes_writable serial) turn.now }
 {
     turn.iter().any(|line| gives_room(line, serial))

@@ -1,0 +1,4 @@
+pub mod LinkStories
+pub mod SoundLinks
+pub mod LinkCalled
+pub mod LinkWaits

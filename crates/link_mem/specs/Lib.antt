@@ -1,0 +1,4 @@
+pub mod LinkStreams
+pub mod LinkAnswers
+pub mod LinkPlaying
+pub mod LinkStanding
