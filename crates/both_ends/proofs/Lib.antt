@@ -1,0 +1,15 @@
+pub mod Greeted
+pub mod Telling
+pub mod TellingClipboards
+pub mod TellingPartings
+pub mod TellingEvents
+pub mod TellingScripts
+pub mod TellingHearing
+pub mod TellingSteps
+pub mod Following
+pub mod GreetedFirst
+pub mod Cutting
+pub mod InputLines
+pub mod MappedScreens
+pub mod Fed
+pub mod Understood

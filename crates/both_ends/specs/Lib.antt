@@ -1,0 +1,4 @@
+pub mod Greetings
+pub mod Feeding
+pub mod Inputs
+pub mod Understanding

@@ -1,0 +1,19 @@
+//! What holds of a server and of a client that hears it. The calls do nothing: their contracts are
+//! the laws.
+
+ghost use Rattle.both_ends.specs.Greetings.{GreetedFirst};
+ghost use Rattle.both_ends.specs.Understanding.{BothEnds};
+
+/// Whatever a connection is told begins with the greeting of version 1.6, and no greeting and
+/// nothing that only a client sends comes later.
+pub fn greeted_first()
+    ensures { GreetedFirst }
+{}
+
+/// A client that is fed any front of a connection's queue, in any pieces, never finds anything that
+/// a server may not send. It hears the messages that were queued, prints their keys and buttons under
+/// the map that the options have made by each of them, and tells the whole clipboards among them, in
+/// their order.
+pub fn both_ends()
+    ensures { BothEnds }
+{}
