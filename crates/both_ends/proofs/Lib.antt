@@ -8,6 +8,11 @@ pub mod TellingHearing
 pub mod TellingSteps
 pub mod Following
 pub mod GreetedFirst
+pub mod SmallNumbers
+pub mod SmallMessages
+pub mod SmallOptions
+pub mod InRange
+pub mod Writable
 pub mod Cutting
 pub mod InputLines
 pub mod MappedScreens

@@ -1,11 +1,8 @@
 -- The law of both ends: what a client makes of whatever a server queued for it.
-use Rattle.std.specs.Prelude.{◌≡◌, ℕ, ◌≤◌, Bool, false, List, ◌++◌, length, map, filter, None}
+use Rattle.std.specs.Prelude.{◌≡◌, ℕ, false, List, ◌++◌, map, filter, None}
 use Rattle.std.specs.List.{list_any, AllByRecursion}
 use Rattle.message_codec.specs.declared.messages.Msg.{Msg}
-use Rattle.message_codec.specs.Fields.{Fits}
-use Rattle.message_codec.specs.Table.{fields}
-use Rattle.message_codec.specs.Spelling.{body_of}
-use Rattle.message_codec.specs.Streams.{AreBytes, body_limit}
+use Rattle.message_codec.specs.Streams.{AreBytes}
 use Rattle.message_codec.specs.Inboxes.{inbox}
 use Rattle.message_reader.specs.Roles.{client}
 use Rattle.message_reader.specs.Endings.{IsFront}
@@ -16,17 +13,14 @@ use Rattle.client_core.specs.declared.clipboards.TheConstants.{CLIP_LIMIT}
 use Rattle.client_core.specs.Clipboards.{whole_line, tells_bytes}
 use Rattle.client_core.specs.Clients.{Client}
 use Rattle.client_core.specs.Happenings.{Happening, joining, lines, run, TellsWholes}
-use Rattle.machine.specs.Targets as target
 use Rattle.machine.specs.States.{State}
-use Rattle.machine.specs.Queues.{messages_for, queued_messages, queue}
-use Rattle.reached_states.specs.Reaching.{Origin, Reached}
+use Rattle.machine.specs.Queues.{queued_messages, queue}
+use Rattle.machine.specs.Happenings as machine
+use Rattle.screen_config.specs.Sound.{IsSound}
+use Rattle.reached_states.specs.Reaching.{Origin, ReachedBy}
 use Rattle.both_ends.specs.Feeding.{fed_by, is_bad_peer, blames}
+use Rattle.both_ends.specs.Numbers.{HasTypes, BringsBytes}
 use Rattle.both_ends.specs.Inputs.{inputs, mapped_screen}
-
--- its numbers are in the ranges of its fields, and its body is no longer than a body may be
-pub record IsWritable (m : Msg) : Type 0 where
-  pub fits : AllByRecursion Fits (fields m)
-  pub within : length (body_of m) ≤ body_limit
 
 -- the messages of a server's stream, as a client reads it
 abbrev pub messages_in : List ℕ → List Msg
@@ -46,12 +40,13 @@ pub record Understands (queued : List Msg) (fed : List ℕ) (c : Client) : Type 
   pub wholes : TellsWholes c
   pub first_wholes : (more : List Line) × (map whole_line (wholes_among CLIP_LIMIT queued) ≡ filter tells_bytes (lines c) ++ more)
 
--- Any front of a reached state's queue, in any pieces, at any moments and takings, to any client that joins. Each number that
--- was told fits its field, and bytes are bytes
+-- Any front of the queue of a reached state, in any pieces, at any moments and takings, to any client that joins: where the
+-- server has a configuration that was read, a script whose numbers are those of its types, and pieces of bytes, and where
+-- nobody else says that the server is bad
 abbrev pub BothEnds : Type 0
 BothEnds =
-    (o : Origin) (latest : ℕ) (s : State) (serial : ℕ) → Reached o latest s
-    → AllByRecursion IsWritable (messages_for (target.Client serial) s.routed)
+    (o : Origin) (before : List machine.Happening) (latest : ℕ) (s : State) (serial : ℕ) → ReachedBy o before latest s
+    → IsSound o.config → HasTypes o.script → AllByRecursion BringsBytes before
     → (happenings : List Happening) (rest : List ℕ) → queue s.routed serial ≡ fed_by happenings ++ rest → AreBytes (fed_by happenings)
     → list_any blames happenings ≡ false
     → (name : List ℕ) (w h : ℕ) (script : List ClientLine) (now : ℕ)

@@ -2,12 +2,20 @@
 //! the laws.
 
 ghost use Rattle.both_ends.specs.Greetings.{GreetedFirst};
+ghost use Rattle.both_ends.specs.Numbers.{AllIsWritable};
 ghost use Rattle.both_ends.specs.Understanding.{BothEnds};
 
 /// Whatever a connection is told begins with the greeting of version 1.6, and no greeting and
 /// nothing that only a client sends comes later.
 pub fn greeted_first()
     ensures { GreetedFirst }
+{}
+
+/// Under a configuration that was read, a script whose numbers are those of its types, and pieces
+/// of bytes, all that is told can be written: its numbers fit their fields, and its body has at most
+/// 4,194,304 bytes.
+pub fn all_is_writable()
+    ensures { AllIsWritable }
 {}
 
 /// A client that is fed any front of a connection's queue, in any pieces, never finds anything that

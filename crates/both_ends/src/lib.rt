@@ -6,4 +6,4 @@
 
 mod laws;
 
-pub use laws::{both_ends, greeted_first};
+pub use laws::{all_is_writable, both_ends, greeted_first};
