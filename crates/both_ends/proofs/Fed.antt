@@ -123,7 +123,7 @@ hears-all c (m ∷ ms) = by c.done refl (stop_in c.talk m) refl (hears-all (list
     by (Some e) is o stops later = subst (λ (d : Client). Hears c d (m ∷ ms)) (sym (over c e (m ∷ ms) is)) (hears-none c e (m ∷ ms) is)
     by None is (Some why) stops later =
         subst (λ (d : Client). Hears c (hear_all d ms) (m ∷ ms)) (sym (hear_is c m (Some why) is stops))
-            (subst (λ (d : Client). Hears c d (m ∷ ms)) (sym (over (takes (Some why) m c) (end_for why) ms refl)) (hears-stop c why m ms))
+        (subst (λ (d : Client). Hears c d (m ∷ ms)) (sym (over (takes (Some why) m c) (end_for why) ms refl)) (hears-stop c why m ms))
     by None is None stops later = subst (λ (d : Client). Hears c (hear_all d ms) (m ∷ ms)) (sym (hear_is c m None is stops)) (hears-more c (hear_all (listens m c) ms) m ms later)
 
 -- ---- a client that was fed these bytes

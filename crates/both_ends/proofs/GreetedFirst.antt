@@ -72,15 +72,15 @@ first-adds base routed (more, is, f) starts h n =
 first-greeted : (latest serial : ℕ) (s : State) → latest < serial → On (BelowLatest latest) s → AllFirst s.routed → AllFirst (greet serial (opened serial s)).routed
 first-greeted latest serial s above below h n =
     messages-more IsGreetedFirst (Client n) s.routed (entry Own (Client serial) greeting (opened serial s)) (λ d. h n) (λ d.
-        let is : serial ≡ n = grind (arith, d) in
-        subst (λ (es : List Entry). IsGreetedFirst (messages_in es ++ greeting ∷ [])) (sym (untold latest n s (subst (λ (m : ℕ). latest < m) is above) below)) (refl, refl))
+    let is : serial ≡ n = grind (arith, d) in
+    subst (λ (es : List Entry). IsGreetedFirst (messages_in es ++ greeting ∷ [])) (sym (untold latest n s (subst (λ (m : ℕ). latest < m) is above) below)) (refl, refl))
 
 accept-first : (latest serial : ℕ) (s : State) → latest < serial → On (BelowLatest latest) s → AllStart (accept serial s).routed → AllFirst s.routed → AllFirst (accept serial s).routed
 accept-first latest serial s above below starts h =
     choose-keeps (λ (t : State). AllStart t.routed → AllFirst t.routed) (nat_le most_open (length s.connections)) (part cause.Full serial) (greet serial) (opened serial s)
-        (λ e on. first-adds s.routed (part cause.Full serial (opened serial s)).routed (part-tells (telling s.routed) cause.Full serial (opened serial s) (adds-none s.routed)) on h)
-        (λ e on. first-greeted latest serial s above below h)
-        starts
+    (λ e on. first-adds s.routed (part cause.Full serial (opened serial s)).routed (part-tells (telling s.routed) cause.Full serial (opened serial s) (adds-none s.routed)) on h)
+    (λ e on. first-greeted latest serial s above below h)
+    starts
 
 -- ---- each happening
 

@@ -116,7 +116,7 @@ listens-mapped : (c : Client) (m : Msg) → IsMapped c → IsMapped (listens m c
 listens-mapped c m h =
     let is : display (c.shown ++ shown_of c.talk m) ≡ heard_all (display c.shown) (shown_of c.talk m) = fold-append heard fresh c.shown (shown_of c.talk m) in
     subst (λ (d : Display). Like d (mapped_screen (c.heard ++ m ∷ []))) (sym is)
-        (subst (Like (heard_all (display c.shown) (shown_of c.talk m))) (sym (mapped-more c.heard m)) (shown-like c.talk (display c.shown) (mapped_screen c.heard) m h))
+    (subst (Like (heard_all (display c.shown) (shown_of c.talk m))) (sym (mapped-more c.heard m)) (shown-like c.talk (display c.shown) (mapped_screen c.heard) m h))
 
 hear-mapped : (done : Option ClientEnd) (by : Option Stop) (c : Client) (m : Msg) → IsMapped c → IsMapped (while_going done (takes by m) c)
 hear-mapped (Some e) by c m h = h

@@ -183,9 +183,10 @@ words_small own all (o ∷ os) h k =
     let b = and_parts (may_be stands_for_all o (setting all o)) (list_all (λ (x : OptionName). may_be stands_for_all x (setting all x)) os) k in
     let value : HasSmall (own_or_all (setting own o) (setting all o)) = either_small (setting own o) (setting all o) (setting_small stands_below_screen o (setting own o) a.0) (setting_small stands_for_all o (setting all o) b.0) in
     let here = pair_small (row_of o).code (own_or_all (setting own o) (setting all o)) (code_small o) value in
-    let rest = words_small own all os a.1 b.1 in
-    (all-both (pair (row_of o).code (own_or_all (setting own o) (setting all o))) (flat_map (sent_of own all) os) here.0 rest.0,
-    omega (arith, here.1, rest.1, length-append (pair (row_of o).code (own_or_all (setting own o) (setting all o))) (flat_map (sent_of own all) os)))
+    let rest = words_small own all os a.1 b.1 in (
+      all-both (pair (row_of o).code (own_or_all (setting own o) (setting all o))) (flat_map (sent_of own all) os) here.0 rest.0,
+      omega (arith, here.1, rest.1, length-append (pair (row_of o).code (own_or_all (setting own o) (setting all o))) (flat_map (sent_of own all) os)),
+    )
 
 each_setting : (stands : Scope → Bool) (values : Values) → are_settings stands values ≡ true → list_all (λ (o : OptionName). may_be stands o (setting values o)) options ≡ true
 unfolding are_settings

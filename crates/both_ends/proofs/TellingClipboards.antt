@@ -36,7 +36,7 @@ refresh-tells : {k : Kinds} (i : IsTelling k) (id : ClipId) (s : State) → k.st
 refresh-tells {k} i id s h =
     let c : Clip = rules.entered (screen_of s s.active) (clip s id) in
     for_some-keeps k.state (rules.given (screen_of s s.active) (clip s id)) (λ bytes t. give id bytes t.active (set_clip id (rules.entered (screen_of t t.active) (clip t id)) t)) unchanged s
-        (λ bytes e. give-tells i id bytes s.active (set_clip id c s) (i.given (screen_of s s.active) (clip s id) bytes e (i.clip_of s id h)) (i.sets_clip id c s (i.entered (screen_of s s.active) (clip s id) (i.clip_of s id h)) h)) h
+    (λ bytes e. give-tells i id bytes s.active (set_clip id c s) (i.given (screen_of s s.active) (clip s id) bytes e (i.clip_of s id h)) (i.sets_clip id c s (i.entered (screen_of s s.active) (clip s id) (i.clip_of s id h)) h)) h
 
 pub refresh_both-tells : {k : Kinds} (i : IsTelling k) (s : State) → k.state s → k.state (refresh_both s)
 refresh_both-tells i s h = refresh-tells i Selection (refresh Clipboard s) (refresh-tells i Clipboard s h)

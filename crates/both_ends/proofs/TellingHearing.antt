@@ -39,14 +39,14 @@ join-tells i asked shape serial s sh h =
     let before : State = clips_joined asked.screen s in
     let there : State = change serial (advanced (asked_after_info (Some shape) s.at asked)) before in
     route_each-tells i Own (Client serial) (msg.InfoAck ∷ msg.ResetOptions ∷ msg.SetOptions (wire_options_of s.config asked.screen) ∷ []) (i.bare msg.InfoAck refl, (i.bare msg.ResetOptions refl, (i.options s asked.screen h, tt)))
-        (logs (Join serial (name_of s asked.screen) ∷ []) there)
-        (i.logged (Join serial (name_of s asked.screen) ∷ []) there (i.changed serial (advanced (asked_after_info (Some shape) s.at asked)) before (i.joins shape s.at asked sh) (i.each_clip (rules.joined asked.screen) s (λ c. i.joined asked.screen c) h)))
+    (logs (Join serial (name_of s asked.screen) ∷ []) there)
+    (i.logged (Join serial (name_of s asked.screen) ∷ []) there (i.changed serial (advanced (asked_after_info (Some shape) s.at asked)) before (i.joins shape s.at asked sh) (i.each_clip (rules.joined asked.screen) s (λ c. i.joined asked.screen c) h)))
 
 reshape-tells : {k : Kinds} (i : IsTelling k) (joined : JoinedScreen) (shape : Shape) (serial : ℕ) (s : State) → k.shape shape → k.state s → k.state (reshape joined shape serial s)
 reshape-tells {k} i joined shape serial s sh h =
     let there : State = change serial (advanced (joined_after_info (Some shape) s.at joined)) s in
     when-keeps k.state (same_target s.active (Client serial)) (clamp_cursor shape) (λ t g. i.cursor (clamped shape t.cursor) t (i.clamps shape t.cursor sh) g) (route Own (Client serial) msg.InfoAck there)
-        (i.told Own (Client serial) msg.InfoAck (i.bare msg.InfoAck refl) there (i.changed serial (advanced (joined_after_info (Some shape) s.at joined)) s (i.reshapes shape s.at joined sh) h))
+    (i.told Own (Client serial) msg.InfoAck (i.bare msg.InfoAck refl) there (i.changed serial (advanced (joined_after_info (Some shape) s.at joined)) s (i.reshapes shape s.at joined sh) h))
 
 first_info-tells : {k : Kinds} (i : IsTelling k) (asked : AskedScreen) (o : Option Shape) (serial : ℕ) (s : State) → ((shape : Shape) → o ≡ Some shape → k.shape shape) → k.state s → k.state (hear_first_info asked o serial s)
 first_info-tells i asked None serial s sh h = part-tells i cause.Size serial s h

@@ -26,4 +26,6 @@ IsGreetedFirst [] = Unit {0}
 IsGreetedFirst (m ∷ later) = (m ≡ greeting) × (list_all may_follow later ≡ true)
 
 abbrev pub GreetedFirst : Type 0
-GreetedFirst = (o : Origin) (latest : ℕ) (s : State) (serial : ℕ) → Reached o latest s → IsGreetedFirst (messages_for (Client serial) s.routed)
+GreetedFirst =
+    (o : Origin) (latest : ℕ) (s : State) (serial : ℕ) → Reached o latest s
+    → IsGreetedFirst (messages_for (Client serial) s.routed)

@@ -1,4 +1,5 @@
--- Numbers and bytes that are those of their types: in a script, in what happens, and in what is told of them.
+-- Numbers and bytes that are those of their types: in a script, in what happens, and in what is
+-- told of them.
 use Rattle.std.specs.Prelude.{ℕ, ◌<◌, ◌≤◌, ◌^◌, List, FitsSigned}
 use Rattle.std.specs.Int.{w16}
 use Rattle.std.specs.List.{AllByRecursion}
@@ -13,7 +14,8 @@ use Rattle.machine.specs.Happenings as machine
 use Rattle.reached_states.specs.Reaching.{Origin, ReachedBy}
 use Rattle.both_ends.specs.Writing.{IsWritable}
 
--- keys, counts and buttons of the keyboard have two bytes, buttons of the mouse one, and motions two with a sign
+-- keys, counts and buttons of the keyboard have two bytes, buttons of the mouse one, and motions
+-- two with a sign
 abbrev pub IsOfTypes : Line → Type 0
 IsOfTypes (line.KeyDown id button) = (id < 2 ^ 16) × (button < 2 ^ 16)
 IsOfTypes (line.KeyRepeat count button) = (count < 2 ^ 16) × (button < 2 ^ 16)
@@ -40,6 +42,7 @@ BringsBytes _ = Unit {0}
 -- under a configuration that was read, all that is told can be written
 abbrev pub AllIsWritable : Type 0
 AllIsWritable =
-    (o : Origin) (happenings : List machine.Happening) (latest : ℕ) (s : State) → ReachedBy o happenings latest s
-    → IsSound o.config → HasTypes o.script → AllByRecursion BringsBytes happenings
+    (o : Origin) (happenings : List machine.Happening) (latest : ℕ) (s : State)
+    → ReachedBy o happenings latest s → IsSound o.config → HasTypes o.script
+    → AllByRecursion BringsBytes happenings
     → (t : Target) → AllByRecursion IsWritable (messages_for t s.routed)

@@ -30,7 +30,7 @@ messages_in bytes = (inbox client bytes).messages
 pub record Understands (queued : List Msg) (fed : List ℕ) (c : Client) : Type 0 where
   -- it found nothing that a server may not send
   pub fine : is_bad_peer c.done ≡ false
-  -- it heard messages that were queued: as long as it goes on, all that came, and then those up to its end
+  -- it heard messages that were queued: all that came as long as it goes on, else the first of them
   pub of_queue : IsFront (messages_in fed) queued
   pub heard : IsFront c.heard (messages_in fed)
   pub all : c.done ≡ None → c.heard ≡ messages_in fed
@@ -38,16 +38,21 @@ pub record Understands (queued : List Msg) (fed : List ℕ) (c : Client) : Type 
   pub keys : inputs (lines c) ≡ inputs (mapped_screen c.heard).lines
   -- its clipboards are the whole ones among them, and so the first of those that were queued
   pub wholes : TellsWholes c
-  pub first_wholes : (more : List Line) × (map whole_line (wholes_among CLIP_LIMIT queued) ≡ filter tells_bytes (lines c) ++ more)
+  pub first_wholes :
+      (more : List Line)
+      × (map whole_line (wholes_among CLIP_LIMIT queued) ≡ filter tells_bytes (lines c) ++ more)
 
--- Any front of the queue of a reached state, in any pieces, at any moments and takings, to any client that joins: where the
--- server has a configuration that was read, a script whose numbers are those of its types, and pieces of bytes, and where
--- nobody else says that the server is bad
+-- Any front of the queue of a reached state, in any pieces, at any moments and takings, to any
+-- client that joins: where the server has a configuration that was read, a script whose numbers are
+-- those of its types, and pieces of bytes, and where nobody else says that the server is bad
 abbrev pub BothEnds : Type 0
 BothEnds =
-    (o : Origin) (before : List machine.Happening) (latest : ℕ) (s : State) (serial : ℕ) → ReachedBy o before latest s
-    → IsSound o.config → HasTypes o.script → AllByRecursion BringsBytes before
-    → (happenings : List Happening) (rest : List ℕ) → queue s.routed serial ≡ fed_by happenings ++ rest → AreBytes (fed_by happenings)
+    (o : Origin) (before : List machine.Happening) (latest : ℕ) (s : State) (serial : ℕ)
+    → ReachedBy o before latest s → IsSound o.config → HasTypes o.script
+    → AllByRecursion BringsBytes before
+    → (happenings : List Happening) (rest : List ℕ)
+    → queue s.routed serial ≡ fed_by happenings ++ rest → AreBytes (fed_by happenings)
     → list_any blames happenings ≡ false
     → (name : List ℕ) (w h : ℕ) (script : List ClientLine) (now : ℕ)
-    → Understands (queued_messages s.routed serial) (fed_by happenings) (run (joining name w h script now) happenings)
+    → Understands (queued_messages s.routed serial) (fed_by happenings)
+    (run (joining name w h script now) happenings)

@@ -11,17 +11,17 @@ pub fn greeted_first()
     ensures { GreetedFirst }
 {}
 
-/// Under a configuration that was read, a script whose numbers are those of its types, and pieces
-/// of bytes, all that is told can be written: its numbers fit their fields, and its body has at most
-/// 4,194,304 bytes.
+/// Under a configuration that was read, with a script whose numbers are those of its types and
+/// pieces of bytes, all that is told can be written: its numbers fit their fields, and its body has
+/// at most 4,194,304 bytes.
 pub fn all_is_writable()
     ensures { AllIsWritable }
 {}
 
-/// A client that is fed any front of a connection's queue, in any pieces, never finds anything that
-/// a server may not send. It hears the messages that were queued, prints their keys and buttons under
-/// the map that the options have made by each of them, and tells the whole clipboards among them, in
-/// their order.
+/// A client that is fed any front of a connection's queue, in any pieces, at any moments and
+/// takings, never ends as if the server had sent what it may not send. It hears messages that were
+/// queued, prints their keys and buttons under the map that the options have made by each of them,
+/// and tells the whole clipboards among them, in their order.
 pub fn both_ends()
     ensures { BothEnds }
 {}
