@@ -27,6 +27,7 @@ use Rattle.client_core.specs.Happenings.{Happening, Got, Moment, Took, Ended, en
 use Rattle.client_core.proofs.Clients.{hear_is, over, left_of}
 use Rattle.both_ends.specs.Feeding.{piece_of, fed_by, is_bad_peer, blames}
 use Rattle.both_ends.specs.Understanding.{messages_in}
+use Rattle.both_ends.proofs.ByteBodies.{bytes-before}
 use Rattle.both_ends.proofs.Cutting.{IsFineBox, fine-box, more-messages}
 
 -- ---- ends
@@ -201,10 +202,6 @@ step-fed ms more bytes c (Took count) good is all-small small b h = quiet-fed by
 step-fed ms more bytes c (Ended why) good is all-small small b h = quiet-fed bytes (step c (Ended why)) (record { role = h.role; fine = ended-fine c.done why h.fine b; heard = h.heard; going = λ goes. absurd (no_end (unwrap_or c.done why) goes) })
 
 -- ---- all happenings
-
-bytes-before : (xs ys : List ℕ) → AreBytes (xs ++ ys) → AreBytes xs
-bytes-before [] ys h = tt
-bytes-before (x ∷ xs) ys h = (h.0, bytes-before xs ys h.1)
 
 pub run-fed : (ms : List Msg) (more bytes : List ℕ) (c : Client) (xs : List Happening) → AllGood client [] ms → frames_of ms ≡ (bytes ++ fed_by xs) ++ more → AreBytes (bytes ++ fed_by xs) → list_any blames xs ≡ false → IsFed c bytes → IsFed (run c xs) (bytes ++ fed_by xs)
 run-fed ms more bytes c [] good is small b h = quiet-fed bytes c h

@@ -52,6 +52,7 @@ kinds base = record {
   change = Any;
   heard = Any;
   piece = Any;
+  part = Any;
 }
 
 all-any : {A : Type 0} (xs : List A) → AllByRecursion Any xs
@@ -131,12 +132,13 @@ telling base = record {
   joined = λ screen c k. tt;
   left = λ primary screen c k. tt;
   given = λ screen c bytes e k. tt;
-  copies = λ s bytes e h. tt;
-  wholes = λ s p parts bytes e h. tt;
+  copies = λ s id bytes l e h. tt;
+  wholes = λ serial s p bytes k e h. tt;
+  part_of = λ id seq m bytes c. tt;
   changed = λ serial f s k h. h;
   is_heard = λ now. tt;
   beaten = λ now. tt;
-  has_part = λ p. tt;
+  has_part = λ p k. tt;
   parts = λ cause now. tt;
   discards = tt;
   took = λ count. tt;

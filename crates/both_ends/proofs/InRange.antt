@@ -26,6 +26,7 @@ use Rattle.message_reader.proofs.Stepping.{bytes-append}
 use Rattle.hello_states.specs.Phases.{Phase, Greeting, Asked, Joined, Parting, joined_shape, AskedScreen, JoinedScreen, after_hearing_in, after_beat_in}
 use Rattle.hello_states.specs.Handshake.{is_span, shape_of_info, Admitted, after_hello, asked_after_info, joined_after_info}
 use Rattle.clip_chunks.specs.Clips.{Clip, Clips, clip_of, with_clip, is_dirty}
+use Rattle.clip_chunks.specs.Parts.{Part}
 use Rattle.clip_chunks.specs.Rules as rules
 use Rattle.screen_config.specs.Configurations.{Configuration}
 use Rattle.screen_config.specs.Sound.{IsSound}
@@ -35,20 +36,25 @@ use Rattle.machine.specs.Connections.{Connection, has_serial, is_live, advanced,
 use Rattle.machine.specs.States.{State}
 use Rattle.machine.specs.Combining.{when}
 use Rattle.machine.specs.Screens.{connection, shape_of}
-use Rattle.machine.specs.Hearing.{with_part, was_heard}
+use Rattle.machine.specs.Hearing.{with_part, parts_from, was_heard}
 use Rattle.machine.specs.Timers.{sent_beat}
 use Rattle.machine.specs.Steps.{inbox_of, received_by}
 use Rattle.modifier_map.specs.Presses as presses
 use Rattle.both_ends.specs.Numbers.{IsOfTypes}
-use Rattle.both_ends.specs.Writing.{IsWritable}
+use Rattle.both_ends.specs.Writing.{HasByteText, IsWritable}
+use Rattle.both_ends.proofs.ByteBodies.{frames-texts}
 use Rattle.both_ends.proofs.SmallNumbers.{IsSmallPress}
 
 -- ---- connections
 
--- its shape, where it is joined, is a screen's, and what it received are bytes
+abbrev pub IsBytePart : Part → Type 0
+IsBytePart p = AreBytes p.bytes
+
+-- its shape, where it is joined, is a screen's, and what it received are bytes, as the parts of clipboards
 pub record IsSmallConnection (c : Connection) : Type 0 where
   pub shape : (shape : Shape) → joined_shape c.phase ≡ Some shape → IsScreenShape shape
   pub bytes : AreBytes c.received
+  pub parts : AllByRecursion IsBytePart c.parts
 
 abbrev pub KeepsSmall : (Connection → Connection) → Type 0
 KeepsSmall f = (c : Connection) → IsSmallConnection c → IsSmallConnection (f c)
@@ -92,16 +98,16 @@ beat_shape now (Joined a) = refl
 beat_shape now (Parting a b) = refl
 
 pub heard-small : (now : ℕ) → KeepsSmall (was_heard now)
-heard-small now c h = record { shape = λ shape e. h.shape shape (sym (heard_shape now c.phase) ∙ e); bytes = h.bytes }
+heard-small now c h = record { shape = λ shape e. h.shape shape (sym (heard_shape now c.phase) ∙ e); bytes = h.bytes; parts = h.parts }
 
 pub beat-small : (now : ℕ) → KeepsSmall (sent_beat now)
-beat-small now c h = record { shape = λ shape e. h.shape shape (sym (beat_shape now c.phase) ∙ e); bytes = h.bytes }
+beat-small now c h = record { shape = λ shape e. h.shape shape (sym (beat_shape now c.phase) ∙ e); bytes = h.bytes; parts = h.parts }
 
 pub advanced-small : (phase : Phase) → ((shape : Shape) → joined_shape phase ≡ Some shape → IsScreenShape shape) → KeepsSmall (advanced phase)
 advanced-small phase is c h = by (is_live c)
   where
     by : (b : Bool) → IsSmallConnection (when b (λ (d : Connection). record d { phase = phase }) c)
-    by true = record { shape = is; bytes = h.bytes }
+    by true = record { shape = is; bytes = h.bytes; parts = h.parts }
     by false = h
 
 the_shape : (shape other : Shape) → Some shape ≡ Some other → IsScreenShape shape → IsScreenShape other
@@ -118,9 +124,6 @@ joins-small shape now asked is = advanced-small (asked_after_info (Some shape) n
 
 pub reshapes-small : (shape : Shape) (now : ℕ) (joined : JoinedScreen) → IsScreenShape shape → KeepsSmall (advanced (joined_after_info (Some shape) now joined))
 reshapes-small shape now joined is = advanced-small (joined_after_info (Some shape) now joined) (λ other e. the_shape shape other e is)
-
-pub unshaped-small : (c : Connection) → IsSmallConnection c → (phase : Phase) → joined_shape phase ≡ None → (received : List ℕ) → AreBytes received → (d : Connection) → d.phase ≡ phase → d.received ≡ received → IsSmallConnection d
-unshaped-small c h phase none received bytes d p r = record { shape = λ shape e. no_shape shape (sym none ∙ ap joined_shape (sym p) ∙ e); bytes = subst AreBytes (sym r) bytes }
 
 -- ---- a screen's information
 
@@ -153,20 +156,21 @@ shape_small x y w h fx fy sx sy =
     }
 
 abbrev pub IsHeard : Msg → Type 0
-IsHeard m = AllByRecursion Fits (fields m)
+IsHeard m = AllByRecursion Fits (fields m) × AllByRecursion HasByteText (fields m)
 
 pub informed-small : (x y : ℤ) (w h warp : ℕ) (mx my : ℤ) (shape : Shape) → IsHeard (msg.Info x y w h warp mx my) → shape_of_info x y w h ≡ Some shape → IsScreenShape shape
 informed-small x y w h warp mx my shape fits e = by (is_span x w && is_span y h) refl e
   where
     by : (b : Bool) → (is_span x w && is_span y h) ≡ b → (if b then Some (record { x = x; y = y; w = pos w; h = pos h }) else None) ≡ Some shape → IsScreenShape shape
-    by true t e = let parts = and_parts (is_span x w) (is_span y h) t in the_shape (record { x = x; y = y; w = pos w; h = pos h }) shape e (shape_small x y w h fits.0 fits.1.0 parts.0 parts.1)
+    by true t e = let parts = and_parts (is_span x w) (is_span y h) t in the_shape (record { x = x; y = y; w = pos w; h = pos h }) shape e (shape_small x y w h fits.0.0 fits.0.1.0 parts.0 parts.1)
     by false t e = no_shape shape e
 
 -- ---- clipboards
 
--- no longer than any limit of clipboards
-abbrev pub IsShort : List ℕ → Type 0
-IsShort bytes = length bytes ≤ 4194304
+-- bytes, and no longer than any limit of clipboards
+pub record IsShort (bytes : List ℕ) : Type 0 where
+  pub short : length bytes ≤ 4194304
+  pub are : AreBytes bytes
 
 abbrev pub IsSmallClip : Clip → Type 0
 IsSmallClip c = (bytes : List ℕ) → c.bytes ≡ Some bytes → IsShort bytes
@@ -246,16 +250,23 @@ received-bytes s serial h = by (connection s serial) refl
     by None e = tt
     by (Some c) e = (found_small (has_serial serial) s.connections c h.each e).bytes
 
+pub parts-bytes : (s : State) (serial : ℕ) → IsSmall s → AllByRecursion IsBytePart (parts_from s serial)
+parts-bytes s serial h = by (connection s serial) refl
+  where
+    by : (o : Option Connection) → connection s serial ≡ o → AllByRecursion IsBytePart (unwrap_or (option_map (λ (c : Connection). c.parts) o) [])
+    by None e = tt
+    by (Some c) e = (found_small (has_serial serial) s.connections c h.each e).parts
+
 -- ---- what comes
 
-good_heard : (reader : Reader) (before ms : List Msg) → AllGood reader before ms → AllByRecursion IsHeard ms
-good_heard reader before [] h = tt
-good_heard reader before (m ∷ ms) h = (h.0.spelled.fits, good_heard reader (before ++ m ∷ []) ms h.1)
+good_heard : (reader : Reader) (before ms : List Msg) → AllGood reader before ms → AllByRecursion (λ m. AllByRecursion HasByteText (fields m)) ms → AllByRecursion IsHeard ms
+good_heard reader before [] h t = tt
+good_heard reader before (m ∷ ms) h t = ((h.0.spelled.fits, t.0), good_heard reader (before ++ m ∷ []) ms h.1 t.1)
 
 pub inbox-heard : (bytes : List ℕ) → AreBytes bytes → AllByRecursion IsHeard (inbox_of bytes).messages
 inbox-heard bytes small =
     let v : Verdict server bytes = each_has_a_verdict server bytes (all-IsBytes bytes small) in
-    subst (AllByRecursion IsHeard) (sym (inbox-verdict server bytes small v).messages_are) (good_heard server [] v.messages v.good)
+    subst (AllByRecursion IsHeard) (sym (inbox-verdict server bytes small v).messages_are) (good_heard server [] v.messages v.good (frames-texts v.messages v.rest (subst AreBytes v.stream_is small)))
 
 pub came-heard : (serial : ℕ) (piece : List ℕ) (s : State) → AreBytes piece → IsSmall s → AllByRecursion IsHeard (inbox_of (received_by s serial ++ piece)).messages
 came-heard serial piece s small h = inbox-heard (received_by s serial ++ piece) (bytes-append (received_by s serial) piece (received-bytes s serial h) small)

@@ -8,10 +8,12 @@ pub mod TellingHearing
 pub mod TellingSteps
 pub mod Following
 pub mod GreetedFirst
+pub mod ByteBodies
 pub mod SmallNumbers
 pub mod SmallMessages
 pub mod SmallOptions
 pub mod InRange
+pub mod WholeBytes
 pub mod Writable
 pub mod Cutting
 pub mod InputLines

@@ -9,6 +9,7 @@ use Rattle.share_base.specs.declared.numbers.RuleNo.{RuleNo}
 use Rattle.screen_links.specs.declared.link.Landing.{Landing}
 use Rattle.edge_cross.specs.declared.edge.Edge.{Edge}
 use Rattle.edge_cross.specs.Gates as gates
+use Rattle.message_codec.specs.declared.clip_mark.ClipMark.{ClipMark}
 use Rattle.message_codec.specs.declared.messages.Msg.{Msg}
 use Rattle.message_codec.specs.declared.messages.Msg.TheVariants as msg
 use Rattle.hotkey_rules.specs.declared.action.Action.{Action}
@@ -18,7 +19,7 @@ use Rattle.screen_config.specs.Globals.{wire_options_of}
 use Rattle.hello_states.specs.declared.part_cause.PartCause.{PartCause}
 use Rattle.hello_states.specs.Phases.{AskedScreen, JoinedScreen}
 use Rattle.hello_states.specs.Handshake.{Admitted, after_hello, shape_of_info, asked_after_info, joined_after_info}
-use Rattle.clip_chunks.specs.Parts.{Part, message_of}
+use Rattle.clip_chunks.specs.Parts.{Part, part, message_of}
 use Rattle.clip_chunks.specs.Sending.{parts_of}
 use Rattle.clip_chunks.specs.Clips.{Clip}
 use Rattle.clip_chunks.specs.OpenRuns.{whole_at}
@@ -38,7 +39,7 @@ use Rattle.machine.specs.Switching.{next_sequence, at_screen}
 use Rattle.machine.specs.Partings.{parted}
 use Rattle.machine.specs.Events.{holding}
 use Rattle.machine.specs.Running.{past}
-use Rattle.machine.specs.Hearing.{with_part, was_heard}
+use Rattle.machine.specs.Hearing.{with_part, parts_from, was_heard}
 use Rattle.machine.specs.Timers.{clock, sent_beat}
 use Rattle.machine.specs.Steps.{inbox_of, received_by, receives, drops, takes}
 
@@ -56,7 +57,7 @@ is_bare msg.Alive = true
 is_bare _ = false
 
 -- which messages may be told, which states, script's lines, points, shapes, places along a side, clipboards, their bytes
--- and changes of connections go with that, and which messages and bytes come from clients
+-- and changes of connections go with that, and which messages, bytes and parts of clipboards come from clients
 pub record Kinds : Type 1 where
   pub message : Msg → Type 0
   pub state : State → Type 0
@@ -69,6 +70,7 @@ pub record Kinds : Type 1 where
   pub change : (Connection → Connection) → Type 0
   pub heard : Msg → Type 0
   pub piece : List ℕ → Type 0
+  pub part : Part → Type 0
 
 -- what an action tells may be told
 abbrev pub Says : Kinds → Action → Type 0
@@ -122,13 +124,14 @@ pub record IsTelling (k : Kinds) : Type 0 where
   pub joined : (screen : ℕ) (c : Clip) → k.clip c → k.clip (rules.joined screen c)
   pub left : (primary screen : ℕ) (c : Clip) → k.clip c → k.clip (rules.left primary screen c)
   pub given : (screen : ℕ) (c : Clip) (bytes : List ℕ) → rules.given screen c ≡ Some bytes → k.clip c → k.bytes bytes
-  pub copies : (s : State) (bytes : List ℕ) → rules.copy_counts (clip_limit s) bytes ≡ true → k.state s → k.bytes bytes
-  pub wholes : (s : State) (p : Part) (parts : List Part) (bytes : List ℕ) → whole_at (clip_limit s) p parts ≡ Some bytes → k.state s → k.bytes bytes
+  pub copies : (s : State) (id : ClipId) (bytes : List ℕ) → k.line (line.Copy id bytes) → rules.copy_counts (clip_limit s) bytes ≡ true → k.state s → k.bytes bytes
+  pub wholes : (serial : ℕ) (s : State) (p : Part) (bytes : List ℕ) → k.part p → whole_at (clip_limit s) p (parts_from s serial) ≡ Some bytes → k.state s → k.bytes bytes
+  pub part_of : (id : ClipId) (seq : ℕ) (m : ClipMark) (bytes : List ℕ) → k.heard (msg.ClipPart id seq m bytes) → k.part (part m id seq bytes)
   -- connections
   pub changed : (serial : ℕ) (f : Connection → Connection) (s : State) → k.change f → k.state s → k.state (change serial f s)
   pub is_heard : (now : ℕ) → k.change (was_heard now)
   pub beaten : (now : ℕ) → k.change (sent_beat now)
-  pub has_part : (p : Part) → k.change (with_part p)
+  pub has_part : (p : Part) → k.part p → k.change (with_part p)
   pub parts : (cause : PartCause) (now : ℕ) → k.change (parted cause now)
   pub discards : k.change drops
   pub took : (count : ℕ) → k.change (takes count)

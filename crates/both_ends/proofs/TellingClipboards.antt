@@ -11,6 +11,7 @@ use Rattle.clip_chunks.specs.Sending.{parts_of}
 use Rattle.clip_chunks.specs.Clips.{Clip}
 use Rattle.clip_chunks.specs.Rules as rules
 use Rattle.held_inputs.specs.declared.line.Line.TheVariants as printed
+use Rattle.machine.specs.Scripts.{Copy}
 use Rattle.machine.specs.Targets.{Target, Primary, Client, Own, Origin}
 use Rattle.machine.specs.States.{State, Local}
 use Rattle.machine.specs.Combining.{unchanged}
@@ -44,9 +45,9 @@ refresh_both-tells i s h = refresh-tells i Selection (refresh Clipboard s) (refr
 become_known-tells : {k : Kinds} (i : IsTelling k) (id : ClipId) (owner seq : ℕ) (bytes : List ℕ) (s : State) → k.bytes bytes → k.state s → k.state (become_known id owner seq bytes s)
 become_known-tells i id owner seq bytes s b h = refresh-tells i id (set_clip id (rules.known owner seq bytes (joined_screens s)) s) (i.sets_clip id (rules.known owner seq bytes (joined_screens s)) s (i.known owner seq bytes (joined_screens s) b) h)
 
-pub copy-tells : {k : Kinds} (i : IsTelling k) (id : ClipId) (bytes : List ℕ) (s : State) → k.state s → k.state (copy id bytes s)
-copy-tells {k} i id bytes s h = when-keeps-if k.state (is_sharing s && rules.copy_counts (clip_limit s) bytes) (publish id bytes) s (λ e.
-    let b : k.bytes bytes = i.copies s bytes (and_parts (is_sharing s) (rules.copy_counts (clip_limit s) bytes) e).1 h in
+pub copy-tells : {k : Kinds} (i : IsTelling k) (id : ClipId) (bytes : List ℕ) (s : State) → k.line (Copy id bytes) → k.state s → k.state (copy id bytes s)
+copy-tells {k} i id bytes s l h = when-keeps-if k.state (is_sharing s && rules.copy_counts (clip_limit s) bytes) (publish id bytes) s (λ e.
+    let b : k.bytes bytes = i.copies s id bytes l (and_parts (is_sharing s) (rules.copy_counts (clip_limit s) bytes) e).1 h in
     become_known-tells i id s.primary s.sequence bytes (route_all Own (joined_clients s) (msg.Grab id 0) s) b (route_all-tells i Own (joined_clients s) (msg.Grab id 0) (i.grabs id) s h)) h
 
 take_over-tells : {k : Kinds} (i : IsTelling k) (id : ClipId) (serial seq : ℕ) (s : State) → k.state s → k.state (take_over id serial seq s)

@@ -58,11 +58,11 @@ later_info-tells i joined (Some shape) serial s sh h = reshape-tells i joined sh
 
 -- ---- parts of clipboards
 
-hear_part-tells : {k : Kinds} (i : IsTelling k) (p : Part) (serial : ℕ) (s : State) → k.state s → k.state (hear_part p serial s)
-hear_part-tells {k} i p serial s h =
+hear_part-tells : {k : Kinds} (i : IsTelling k) (p : Part) (serial : ℕ) (s : State) → k.part p → k.state s → k.state (hear_part p serial s)
+hear_part-tells {k} i p serial s kp h =
     let there : State = change serial (with_part p) s in
-    let after : k.state there = i.changed serial (with_part p) s (i.has_part p) h in
-    for_some-keeps k.state (whole_at (clip_limit s) p (parts_from s serial)) (λ bytes. whole p.clip serial p.seq bytes) unchanged there (λ bytes e. whole-tells i p.clip serial p.seq bytes there (i.wholes s p (parts_from s serial) bytes e h) after) after
+    let after : k.state there = i.changed serial (with_part p) s (i.has_part p kp) h in
+    for_some-keeps k.state (whole_at (clip_limit s) p (parts_from s serial)) (λ bytes. whole p.clip serial p.seq bytes) unchanged there (λ bytes e. whole-tells i p.clip serial p.seq bytes there (i.wholes serial s p bytes kp e h) after) after
 
 -- ---- messages
 
@@ -77,7 +77,7 @@ asked-tells i asked m serial s c g = g
 joined-tells : {k : Kinds} (i : IsTelling k) (joined : JoinedScreen) (m : Msg) (serial : ℕ) (s : State) → k.heard m → k.state s → k.state (hear_joined joined m serial s)
 joined-tells i joined (msg.Info x y w h warp mx my) serial s c g = later_info-tells i joined (shape_of_info x y w h) serial s (λ shape e. i.informed x y w h warp mx my shape c e) g
 joined-tells i joined (msg.Grab clip seq) serial s c g = grab-tells i clip serial seq s g
-joined-tells i joined (msg.ClipPart clip seq mark bytes) serial s c g = hear_part-tells i (part mark clip seq bytes) serial s g
+joined-tells i joined (msg.ClipPart clip seq mark bytes) serial s c g = hear_part-tells i (part mark clip seq bytes) serial s (i.part_of clip seq mark bytes c) g
 joined-tells i joined m serial s c g = g
 
 hear_in-tells : {k : Kinds} (i : IsTelling k) (o : Option Phase) (m : Msg) (serial : ℕ) (s : State) → k.heard m → k.state s → k.state (hear_in o m serial s)

@@ -46,7 +46,7 @@ does-tells i number (ButtonUp b) s l h = button_up-tells i number b s l h
 does-tells i number (Motion dx dy) s l h = motion-tells i number dx dy s l h
 does-tells i number (Wheel dx dy) s l h = wheel-tells i number dx dy s l h
 does-tells i number (Saver on) s l h = save-tells i on s h
-does-tells i number (Copy clip bytes) s l h = copy-tells i clip bytes s h
+does-tells i number (Copy clip bytes) s l h = copy-tells i clip bytes s l h
 does-tells i number Quit s l h = quit-tells i s h
 
 run_ahead-tells : {k : Kinds} (i : IsTelling k) (lines : List Line) → AllByRecursion k.line lines → (s : State) → k.state s → k.state (run_ahead lines s)

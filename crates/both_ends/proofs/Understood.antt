@@ -9,7 +9,7 @@ use Rattle.message_codec.specs.declared.messages.Msg.{Msg}
 use Rattle.message_codec.specs.Table.{Sender, server, client, both, row, code_of, Sends}
 use Rattle.message_codec.specs.BodyVerdicts.{sends}
 use Rattle.message_codec.specs.Spelling.{body_of, Spells}
-use Rattle.message_codec.specs.Streams.{IsGood, AllGood}
+use Rattle.message_codec.specs.Streams.{AreBytes, AllGood}
 use Rattle.message_reader.specs.Roles as roles
 use Rattle.message_reader.specs.Roles.{is_hello}
 use Rattle.message_reader.specs.declared.role.Role.TheVariants as role
@@ -33,6 +33,7 @@ use Rattle.both_ends.specs.Feeding.{fed_by}
 use Rattle.both_ends.specs.Writing.{IsWritable}
 use Rattle.both_ends.specs.Understanding.{Understands, BothEnds}
 use Rattle.both_ends.specs.Understanding as understanding
+use Rattle.both_ends.proofs.ByteBodies.{bytes-before, frames-bytes}
 use Rattle.both_ends.proofs.Cutting.{fine-box}
 use Rattle.both_ends.proofs.MappedScreens.{joining-keys}
 use Rattle.both_ends.proofs.Fed.{IsFed, run-fed}
@@ -110,12 +111,13 @@ fronts : (a b c : List Msg) → IsFront a b → IsFront b c → IsFront a c
 fronts a b c h k = (h.0 ++ k.0, k.1 ∙ ap (λ (t : List Msg). t ++ k.0) h.1 ∙ append_assoc a h.0 k.0)
 
 pub both-ends : BothEnds
-both-ends o before latest s serial by sound types bytes happenings rest is small blameless name width height script now =
+both-ends o before latest s serial by sound types bytes happenings rest is blameless name width height script now =
     let told : List Msg = messages_for (target.Client serial) s.routed in
     let queued : List Msg = queued_messages s.routed serial in
     let front : IsFront queued told = queued-front s.routed serial in
     let greeted : IsGreetedFirst queued = greeted-front queued front.0 (subst IsGreetedFirst front.1 (greeted-first o latest s serial (record { happenings = before; by = by }))) in
     let writable : AllByRecursion IsWritable queued = all-front IsWritable queued front.0 (subst (AllByRecursion IsWritable) front.1 (all-writable o before latest s by sound types bytes (target.Client serial))) in
+    let small : AreBytes (fed_by happenings) = bytes-before (fed_by happenings) rest (subst AreBytes is (frames-bytes queued writable)) in
     let good : AllGood roles.client [] queued = all-good queued greeted writable in
     let first : Client = joining name width height script now in
     let c : Client = run first happenings in

@@ -23,8 +23,9 @@ use Rattle.clip_chunks.specs.Parts.{Part}
 use Rattle.clip_chunks.specs.OpenRuns.{whole_at}
 use Rattle.clip_chunks.specs.Clips.{Clip, clip_of, with_clip}
 use Rattle.clip_chunks.specs.Rules as rules
+use Rattle.clip_chunks.specs.Wholes.{EndsWhole}
 use Rattle.clip_chunks.proofs.EndedRuns.{ends_whole}
-use Rattle.machine.specs.Scripts.{Script, Line, KeyDown, KeyRepeat, KeyUp, ButtonDown, ButtonUp, Motion, Wheel}
+use Rattle.machine.specs.Scripts.{Script, Line, KeyDown, KeyRepeat, KeyUp, ButtonDown, ButtonUp, Motion, Wheel, Copy}
 use Rattle.machine.specs.Targets.{Target, Client, Own, Entry, same_target}
 use Rattle.machine.specs.Connections.{Connection, fresh, has_serial, removed}
 use Rattle.machine.specs.States.{State}
@@ -32,6 +33,7 @@ use Rattle.machine.specs.Queues.{entries_for, messages_in, messages_for}
 use Rattle.machine.specs.Screens.{is_screen_joined, middle}
 use Rattle.machine.specs.Modifiers.{mask, id_at, toggles}
 use Rattle.machine.specs.Clipboards.{clip_limit}
+use Rattle.machine.specs.Hearing.{parts_from}
 use Rattle.machine.specs.Edges.{landing, place_on}
 use Rattle.machine.specs.Routing.{entry}
 use Rattle.machine.specs.Switching.{next_sequence}
@@ -52,7 +54,8 @@ use Rattle.both_ends.proofs.SmallNumbers.{IsPixel, IsSmallPress, toggles-small, 
 use Rattle.both_ends.proofs.SmallMessages as messages
 use Rattle.both_ends.proofs.SmallOptions.{IsSmallAction, press-small, release-small, AreFewAndSmall, wire-small, sharing-small, landing-on_side}
 use Rattle.both_ends.proofs.InRange as range
-use Rattle.both_ends.proofs.InRange.{IsSmallConnection, KeepsSmall, IsHeard, IsShort, IsSmallClip, AreSmallClips, IsWritableEntry, AreSmall, IsSmall}
+use Rattle.both_ends.proofs.WholeBytes.{ended-bytes}
+use Rattle.both_ends.proofs.InRange.{IsBytePart, IsSmallConnection, KeepsSmall, IsHeard, IsShort, IsSmallClip, AreSmallClips, IsWritableEntry, AreSmall, IsSmall}
 
 abbrev pub kinds : Kinds
 kinds = record {
@@ -67,6 +70,7 @@ kinds = record {
   change = KeepsSmall;
   heard = IsHeard;
   piece = AreBytes;
+  part = IsBytePart;
 }
 
 all-more : (routed : List Entry) (e : Entry) → IsWritableEntry e → AllByRecursion IsWritableEntry routed → AllByRecursion IsWritableEntry (routed ++ e ∷ [])
@@ -104,11 +108,15 @@ holds-small l s k h = h
 limit-small : (s : State) → IsSmall s → clip_limit s ≤ 4194304
 limit-small s h = omega (arith, sharing-small s.config h.sound)
 
-copied-short : (s : State) (bytes : List ℕ) → rules.copy_counts (clip_limit s) bytes ≡ true → IsSmall s → IsShort bytes
-copied-short s bytes e h = let within : length bytes ≤ clip_limit s = leb-true (length bytes) (clip_limit s) e in let limit = limit-small s h in omega arith
+copied-short : (s : State) (id : ClipId) (bytes : List ℕ) → IsOfTypes (Copy id bytes) → rules.copy_counts (clip_limit s) bytes ≡ true → IsSmall s → IsShort bytes
+copied-short s id bytes l e h = let within : length bytes ≤ clip_limit s = leb-true (length bytes) (clip_limit s) e in let limit = limit-small s h in record { short = omega arith; are = l }
 
-whole-short : (s : State) (p : Part) (parts : List Part) (bytes : List ℕ) → whole_at (clip_limit s) p parts ≡ Some bytes → IsSmall s → IsShort bytes
-whole-short s p parts bytes e h = let within : length bytes ≤ clip_limit s = (ends_whole (clip_limit s) bytes p parts e).whole.within in let limit = limit-small s h in omega arith
+whole-short : (serial : ℕ) (s : State) (p : Part) (bytes : List ℕ) → IsBytePart p → whole_at (clip_limit s) p (parts_from s serial) ≡ Some bytes → IsSmall s → IsShort bytes
+whole-short serial s p bytes k e h =
+    let ended : EndsWhole (clip_limit s) bytes p (parts_from s serial) = ends_whole (clip_limit s) bytes p (parts_from s serial) e in
+    let within : length bytes ≤ clip_limit s = ended.whole.within in
+    let limit = limit-small s h in
+    record { short = omega arith; are = ended-bytes (clip_limit s) bytes p (parts_from s serial) ended (k, range.parts-bytes s serial h) }
 
 telling : IsTelling kinds
 telling = record {
@@ -118,7 +126,7 @@ telling = record {
   grabs = messages.grab-writable;
   saver = messages.saver-writable;
   options = options-told;
-  copied = messages.parts-writable;
+  copied = λ id bytes b. messages.parts-writable id bytes b.are b.short;
   enters = λ p n s at h. messages.enter-writable p.x p.y (next_sequence n) (toggles s) at.0 at.1 (sequence-small n) (toggles-small s);
   moves_to = λ p at. messages.move_to-writable p.x p.y at.0 at.1;
   moves_by = λ dx dy l. messages.move_by-writable dx dy l.0 l.1;
@@ -150,17 +158,18 @@ telling = record {
   given = range.given-small;
   copies = copied-short;
   wholes = whole-short;
+  part_of = λ id seq m bytes c. c.1.1.1.1.0;
   changed = λ serial f s k h. record { sound = h.sound; script = h.script; presses_of = h.presses_of; shape = h.shape; each = range.all-changed serial f k s.connections h.each; both_clips = h.both_clips; told = h.told };
   is_heard = range.heard-small;
   beaten = range.beat-small;
-  has_part = λ p c h. record { shape = h.shape; bytes = h.bytes };
-  parts = λ why now c h. record { shape = λ shape e. grind (arith, e); bytes = h.bytes };
-  discards = λ c h. record { shape = h.shape; bytes = h.bytes };
-  took = λ count c h. record { shape = h.shape; bytes = h.bytes };
+  has_part = λ p k c h. record { shape = h.shape; bytes = h.bytes; parts = (k, h.parts) };
+  parts = λ why now c h. record { shape = λ shape e. grind (arith, e); bytes = h.bytes; parts = h.parts };
+  discards = λ c h. record { shape = h.shape; bytes = h.bytes; parts = h.parts };
+  took = λ count c h. record { shape = h.shape; bytes = h.bytes; parts = h.parts };
   asks = range.asks-small;
   joins = range.joins-small;
   reshapes = range.reshapes-small;
-  receives = λ piece small c h. record { shape = h.shape; bytes = bytes-append c.received piece h.bytes small };
+  receives = λ piece small c h. record { shape = h.shape; bytes = bytes-append c.received piece h.bytes small; parts = h.parts };
   came = range.came-heard;
   closed = λ serial s h. record { sound = h.sound; script = h.script; presses_of = h.presses_of; shape = h.shape; each = range.all-removed _ s.connections h.each; both_clips = h.both_clips; told = h.told };
   logged = λ lines s h. h;
@@ -180,7 +189,7 @@ all-opened [] c k h = (k, tt)
 all-opened (d ∷ cs) c k h = (h.0, all-opened cs c k h.1)
 
 opened-small : (serial : ℕ) (s : State) → IsSmall s → IsSmall (opened serial s)
-opened-small serial s h = record { sound = h.sound; script = h.script; presses_of = h.presses_of; shape = h.shape; each = all-opened s.connections (fresh serial s.at) (record { shape = λ shape e. grind (arith, e); bytes = tt }) h.each; both_clips = h.both_clips; told = h.told }
+opened-small serial s h = record { sound = h.sound; script = h.script; presses_of = h.presses_of; shape = h.shape; each = all-opened s.connections (fresh serial s.at) (record { shape = λ shape e. grind (arith, e); bytes = tt; parts = tt }) h.each; both_clips = h.both_clips; told = h.told }
 
 accept-small : (serial : ℕ) (s : State) → IsSmall s → IsSmall (accept serial s)
 accept-small serial s h =

@@ -15,7 +15,7 @@ use Rattle.reached_states.specs.Reaching.{Origin, ReachedBy}
 use Rattle.both_ends.specs.Writing.{IsWritable}
 
 -- keys, counts and buttons of the keyboard have two bytes, buttons of the mouse one, and motions
--- two with a sign
+-- two with a sign; what is copied are bytes
 abbrev pub IsOfTypes : Line → Type 0
 IsOfTypes (line.KeyDown id button) = (id < 2 ^ 16) × (button < 2 ^ 16)
 IsOfTypes (line.KeyRepeat count button) = (count < 2 ^ 16) × (button < 2 ^ 16)
@@ -24,6 +24,7 @@ IsOfTypes (line.ButtonDown b) = b < 2 ^ 8
 IsOfTypes (line.ButtonUp b) = b < 2 ^ 8
 IsOfTypes (line.Motion dx dy) = FitsSigned w16 dx × FitsSigned w16 dy
 IsOfTypes (line.Wheel dx dy) = FitsSigned w16 dx × FitsSigned w16 dy
+IsOfTypes (line.Copy clip bytes) = AreBytes bytes
 IsOfTypes _ = Unit {0}
 
 -- and the primary's sides have 1 to 32,767 pixels

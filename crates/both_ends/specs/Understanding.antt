@@ -2,7 +2,6 @@
 use Rattle.std.specs.Prelude.{◌≡◌, ℕ, false, List, ◌++◌, map, filter, None}
 use Rattle.std.specs.List.{list_any, AllByRecursion}
 use Rattle.message_codec.specs.declared.messages.Msg.{Msg}
-use Rattle.message_codec.specs.Streams.{AreBytes}
 use Rattle.message_codec.specs.Inboxes.{inbox}
 use Rattle.message_reader.specs.Roles.{client}
 use Rattle.message_reader.specs.Endings.{IsFront}
@@ -51,7 +50,7 @@ BothEnds =
     → ReachedBy o before latest s → IsSound o.config → HasTypes o.script
     → AllByRecursion BringsBytes before
     → (happenings : List Happening) (rest : List ℕ)
-    → queue s.routed serial ≡ fed_by happenings ++ rest → AreBytes (fed_by happenings)
+    → queue s.routed serial ≡ fed_by happenings ++ rest
     → list_any blames happenings ≡ false
     → (name : List ℕ) (w h : ℕ) (script : List ClientLine) (now : ℕ)
     → Understands (queued_messages s.routed serial) (fed_by happenings)
