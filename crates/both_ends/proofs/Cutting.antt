@@ -1,9 +1,8 @@
 -- A front of frames of messages that may stand where they do has nothing bad in it.
-use Rattle.std.specs.Prelude.{◌≡◌, refl, ℕ, ◌<◌, ◌≤◌, ◌+◌, ◌^◌, ◌⊎◌, Bool, true, false, ltb, List, [], ◌∷◌, ◌++◌, length, take, drop, Option, None}
+use Rattle.std.specs.Prelude.{◌≡◌, refl, ℕ, ◌<◌, ◌≤◌, Bool, true, false, ltb, List, [], ◌∷◌, ◌++◌, length, take, drop, None}
 use Rattle.std.proofs.Common.{arith, ap, sym, subst, ◌∙◌, append_assoc, inl, inr, ltb-true, ltb-false}
 use Rattle.std.proofs.lemmas.List.{append-nil, length-append, take-append-drop, take-append-le, drop-append-le, take_at, drop_at}
-use Rattle.share_base.specs.declared.reason.Reason.{Reason}
-use Rattle.wire_frames.specs.Framing.{frame, length_field, IsPartial}
+use Rattle.wire_frames.specs.Framing.{length_field, IsPartial}
 use Rattle.wire_frames.proofs.OneFrame.{length_field-frame}
 use Rattle.std.specs.Int.{w32, from_be_bytes}
 use Rattle.message_codec.specs.declared.messages.Msg.{Msg}

@@ -1,15 +1,14 @@
 -- A client that is fed the frames of messages that may stand where they do.
-use Rattle.std.specs.Prelude.{◌≡◌, refl, ℕ, Bool, true, false, List, [], ◌∷◌, ◌++◌, length, drop, Option, Some, None, unwrap_or, if◌then◌else◌, ◌||◌}
+use Rattle.std.specs.Prelude.{◌≡◌, refl, ℕ, Bool, true, false, List, [], ◌∷◌, ◌++◌, Option, Some, None, unwrap_or, if◌then◌else◌}
 use Rattle.std.specs.List.{list_any}
 use Rattle.std.specs.Option.{option_map}
-use Rattle.std.proofs.Common.{arith, ap, sym, subst, ◌∙◌, append_assoc}
+use Rattle.std.proofs.Common.{ap, sym, subst, ◌∙◌, append_assoc}
 use Rattle.std.proofs.lemmas.Bool.{or_parts}
 use Rattle.std.proofs.lemmas.List.{append-nil}
 use Rattle.share_base.specs.declared.reason.Reason.{Reason}
 use Rattle.message_codec.specs.declared.messages.Msg.{Msg}
 use Rattle.message_codec.specs.Streams.{AreBytes, frames_of, AllGood}
 use Rattle.message_codec.specs.Inboxes.{Inbox, inbox}
-use Rattle.message_reader.specs.declared.reader.BadFrame.{BadFrame}
 use Rattle.message_reader.specs.declared.role.Role.{Role}
 use Rattle.message_reader.specs.declared.role.Role.TheVariants as role
 use Rattle.message_reader.specs.Roles.{client, reader_of}
@@ -22,13 +21,13 @@ use Rattle.client_core.specs.declared.client_end.LostCause.TheVariants as lost
 use Rattle.client_core.specs.declared.stop.Stop.{Stop}
 use Rattle.client_core.specs.declared.stop.Stop.TheVariants as stop
 use Rattle.client_core.specs.Ends.{stop_in, end_for}
-use Rattle.client_core.specs.Clients.{Client, while_going, slow_end, listens, takes, hear, hear_all, fed, inbox_with, bad_in, fails, reads, got}
+use Rattle.client_core.specs.Clients.{Client, while_going, slow_end, listens, takes, hear_all, fed, inbox_with, bad_in, fails, reads, got}
 use Rattle.client_core.specs.Happenings.{Happening, Got, Moment, Took, Ended, end_of_wait, tells, step, run}
 use Rattle.client_core.proofs.Clients.{hear_is, over, left_of}
 use Rattle.both_ends.specs.Feeding.{piece_of, fed_by, is_bad_peer, blames}
 use Rattle.both_ends.specs.Understanding.{messages_in}
 use Rattle.both_ends.proofs.ByteBodies.{bytes-before}
-use Rattle.both_ends.proofs.Cutting.{IsFineBox, fine-box, more-messages}
+use Rattle.both_ends.proofs.Cutting.{fine-box, more-messages}
 
 -- ---- ends
 

@@ -10,7 +10,7 @@ use Rattle.message_codec.specs.declared.clip_mark.ClipMark.TheVariants as mark
 use Rattle.hotkey_rules.specs.declared.action.Action.{Action}
 use Rattle.hotkey_rules.specs.declared.action.Action.TheVariants as action
 use Rattle.clip_chunks.specs.Parts.{part, message_of}
-use Rattle.clip_chunks.specs.Sending.{parts_of, chunks_of}
+use Rattle.clip_chunks.specs.Sending.{chunks_of}
 use Rattle.machine.specs.Scripts.{Line, KeyDown, KeyUp, ButtonDown, ButtonUp}
 use Rattle.machine.specs.Targets.{Entry}
 use Rattle.machine.specs.States.{State}

@@ -1,6 +1,6 @@
 -- An invariant: who lives, and the active screen, was greeted first; and so was everybody who was told anything. Some
 -- serials may be left out.
-use Rattle.std.specs.Prelude.{◌≡◌, refl, ℕ, ◌<◌, Bool, true, false, ◌&&◌, ◌||◌, ◌==◌, nat_le, length, List, [], ◌∷◌, ◌++◌, Option, Some}
+use Rattle.std.specs.Prelude.{◌≡◌, refl, ℕ, ◌<◌, Bool, true, false, ◌&&◌, ◌||◌, ◌==◌, nat_le, length, List, [], ◌∷◌, ◌++◌, Option}
 use Rattle.std.specs.List.{list_any}
 use Rattle.std.specs.Option.{option_and_then}
 use Rattle.std.proofs.Common.{arith, ap, sym, subst, ◌∙◌, inl, inr}
@@ -10,16 +10,16 @@ use Rattle.message_codec.specs.declared.messages.Msg.{Msg}
 use Rattle.message_codec.specs.declared.messages.Msg.TheVariants as msg
 use Rattle.hello_states.specs.declared.part_cause.PartCause.TheVariants as cause
 use Rattle.machine.specs.Targets.{Target, Primary, Client, Entry, Origin, Own, same_target}
-use Rattle.machine.specs.Connections.{Connection, fresh, has_serial, is_live, changed, removed}
+use Rattle.machine.specs.Connections.{Connection, fresh, has_serial, changed, removed}
 use Rattle.machine.specs.States.{State, Point}
 use Rattle.machine.specs.Combining.{for_some, unchanged}
 use Rattle.machine.specs.Screens.{screen_in}
-use Rattle.machine.specs.Queues.{entries_for, messages_in, messages_for}
+use Rattle.machine.specs.Queues.{messages_in, messages_for}
 use Rattle.machine.specs.Routing.{route, entry}
 use Rattle.machine.specs.Switching.{entering, at_screen, tell_leaving}
 use Rattle.machine.specs.Partings.{lose, parted, marked, part}
 use Rattle.machine.specs.Acceptance.{most_open, opened, greet, accept}
-use Rattle.machine.specs.Happenings.{Happening, Joined, Got, Ended, Failed, Took, Moment, Closed, IsAllowed, latest_after}
+use Rattle.machine.specs.Happenings.{Happening, Joined, Got, Ended, Failed, Took, Moment, Closed, IsAllowed}
 use Rattle.machine.specs.Steps.{drops, takes, step}
 use Rattle.machine.proofs.Rules.{choose-keeps}
 use Rattle.machine.proofs.Targets.{same_target-refl, same_target-is}

@@ -14,7 +14,7 @@ use Rattle.machine.specs.Queues.{entries_for, messages_in, messages_for}
 use Rattle.machine.specs.Routing.{entry}
 use Rattle.machine.specs.Partings.{part}
 use Rattle.machine.specs.Acceptance.{most_open, opened, greet, accept}
-use Rattle.machine.specs.Happenings.{Happening, Joined, Got, Ended, Failed, Took, Moment, Closed, IsAllowed, latest_after}
+use Rattle.machine.specs.Happenings.{Happening, Joined, Got, Ended, Failed, Took, Moment, Closed, IsAllowed}
 use Rattle.machine.specs.Steps.{step}
 use Rattle.machine.proofs.Rules.{choose-keeps}
 use Rattle.machine.proofs.OfTargets.{messages-more}

@@ -1,11 +1,10 @@
 -- States in which all that may be told can be written.
-use Rattle.std.specs.Prelude.{◌≡◌, refl, ℕ, ◌+◌, ◌*◌, ◌<◌, ◌≤◌, ◌^◌, ◌==◌, ℤ, pos, negsuc, ◌+ℤ◌, ◌≤ℤ◌, int_le, Bool, true, false, not, cond, ◌&&◌, nat_le, FitsSigned, List, [], ◌∷◌, ◌++◌, length, filter, Option, Some, None, unwrap_or, if◌then◌else◌}
+use Rattle.std.specs.Prelude.{◌≡◌, refl, ℕ, ◌≤◌, ◌==◌, ℤ, pos, negsuc, ◌+ℤ◌, ◌≤ℤ◌, int_le, Bool, true, false, cond, ◌&&◌, nat_le, FitsSigned, List, [], ◌∷◌, ◌++◌, length, filter, Option, Some, None, unwrap_or, if◌then◌else◌}
 use Rattle.std.specs.Int.{w16}
 use Rattle.std.specs.List.{find, AllByRecursion}
 use Rattle.std.specs.Option.{option_map, option_and_then}
 use Rattle.std.proofs.Common.{arith, ap, sym, subst, ◌∙◌, leb-true}
 use Rattle.std.proofs.lemmas.Bool.{and_parts}
-use Rattle.std.proofs.lemmas.Bool.Decides.{nat_tests}
 use Rattle.std.proofs.lemmas.Int.{ints}
 use Rattle.share_base.specs.declared.clip_id.ClipId.{ClipId}
 use Rattle.share_base.specs.declared.clip_id.ClipId.TheVariants.{Clipboard, Selection}
@@ -17,7 +16,6 @@ use Rattle.message_codec.specs.Fields.{Fits}
 use Rattle.message_codec.specs.Table.{fields}
 use Rattle.message_codec.specs.Streams.{AreBytes, Reader, AllGood}
 use Rattle.message_codec.specs.Verdicts.{Verdict}
-use Rattle.message_codec.specs.Inboxes.{inbox, HasVerdict}
 use Rattle.message_codec.proofs.Readers.{all-IsBytes}
 use Rattle.message_codec.proofs.HasVerdict.{each_has_a_verdict}
 use Rattle.message_codec.proofs.InboxVerdicts.{inbox-verdict}
@@ -32,11 +30,11 @@ use Rattle.screen_config.specs.Configurations.{Configuration}
 use Rattle.screen_config.specs.Sound.{IsSound}
 use Rattle.machine.specs.Scripts.{Line}
 use Rattle.machine.specs.Targets.{Target, Primary, Client, Entry}
-use Rattle.machine.specs.Connections.{Connection, has_serial, is_live, advanced, changed, removed}
+use Rattle.machine.specs.Connections.{Connection, has_serial, is_live, advanced, changed}
 use Rattle.machine.specs.States.{State}
 use Rattle.machine.specs.Combining.{when}
 use Rattle.machine.specs.Screens.{connection, shape_of}
-use Rattle.machine.specs.Hearing.{with_part, parts_from, was_heard}
+use Rattle.machine.specs.Hearing.{parts_from, was_heard}
 use Rattle.machine.specs.Timers.{sent_beat}
 use Rattle.machine.specs.Steps.{inbox_of, received_by}
 use Rattle.modifier_map.specs.Presses as presses

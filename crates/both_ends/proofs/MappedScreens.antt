@@ -1,5 +1,5 @@
 -- The keys and buttons of a client's lines are those of a screen that gets all messages that the client heard.
-use Rattle.std.specs.Prelude.{◌≡◌, refl, ℕ, Bool, true, false, cond, List, [], ◌∷◌, ◌++◌, map, filter, fold, length, drop, Option, Some, None, ◌==◌, if◌then◌else◌}
+use Rattle.std.specs.Prelude.{◌≡◌, refl, ℕ, Bool, true, false, List, [], ◌∷◌, ◌++◌, map, fold, length, drop, Option, Some, None, if◌then◌else◌}
 use Rattle.std.proofs.Common.{ap, sym, subst, ◌∙◌}
 use Rattle.std.proofs.lemmas.List.{append-nil}
 use Rattle.std.proofs.lemmas.List.Elements.{filter-append}
@@ -15,7 +15,7 @@ use Rattle.modifier_map.specs.Map.{identity, changed}
 use Rattle.modifier_map.specs.declared.map.ModMap.{ModMap}
 use Rattle.held_inputs.specs.declared.line.Line.{Line}
 use Rattle.held_inputs.specs.declared.line.Line.TheVariants as line
-use Rattle.held_inputs.specs.Screen.{Screen, Call, Applies, SetsOption, ResetsOptions, applied, saver_line, after, screen, screen_from}
+use Rattle.held_inputs.specs.Screen.{Screen, Call, Applies, applied, after, screen, screen_from}
 use Rattle.script_screen.specs.declared.client_script.ClientLine.{ClientLine}
 use Rattle.client_talk.specs.Options.{pairs}
 use Rattle.client_talk.specs.Talks.{Talk}
@@ -26,7 +26,7 @@ use Rattle.client_core.specs.declared.stop.Stop.{Stop}
 use Rattle.client_core.specs.Ends.{stop_in}
 use Rattle.client_core.specs.Clipboards.{whole_line, part_lines}
 use Rattle.client_core.specs.Hearing.{Display, option_lines, set_all, heard, fresh, heard_all, display}
-use Rattle.client_core.specs.Clients.{Client, while_going, shown_of, listens, takes, hear, hear_all, fed, inbox_with, bad_in, fails, reads, got}
+use Rattle.client_core.specs.Clients.{Client, while_going, shown_of, listens, takes, hear, hear_all, fed, inbox_with, bad_in, fails, reads}
 use Rattle.client_core.specs.Happenings.{Happening, Got, Moment, Took, Ended, joining, lines, tells, step, run}
 use Rattle.both_ends.specs.Inputs.{is_input, inputs, sets_option, calls_of, calls, mapped_screen}
 use Rattle.both_ends.proofs.InputLines.{same-applied}

@@ -1,10 +1,10 @@
 -- Messages that can be written, where their numbers fit.
-use Rattle.std.specs.Prelude.{◌≡◌, refl, ℕ, zero, suc, ◌+◌, ◌*◌, ◌<◌, ◌≤◌, ◌^◌, ℤ, FitsSigned, Bool, true, false, List, [], ◌∷◌, ◌++◌, map, length, take, drop, if◌then◌else◌}
+use Rattle.std.specs.Prelude.{◌≡◌, ℕ, zero, suc, ◌<◌, ◌≤◌, ◌^◌, ℤ, FitsSigned, Bool, true, false, List, [], ◌∷◌, ◌++◌, map, length, take, drop, if◌then◌else◌}
 use Rattle.std.specs.Int.{w16, w32, to_be_bytes}
-use Rattle.std.specs.List.{flat_map, list_all, AllByRecursion}
+use Rattle.std.specs.List.{list_all, AllByRecursion}
 use Rattle.std.specs.Char.{is_ascii_digit}
 use Rattle.std.specs.Fmt.{decimal}
-use Rattle.std.proofs.Common.{arith, lit≤, ap, sym, subst, ◌∙◌}
+use Rattle.std.proofs.Common.{arith, lit≤, ap, sym, subst}
 use Rattle.std.proofs.lemmas.Bool.{and_parts}
 use Rattle.std.proofs.lemmas.Bool.Decides.{nat_tests}
 use Rattle.std.proofs.lemmas.Fmt.{length-decimal-le, digits_decimal}
@@ -17,14 +17,14 @@ use Rattle.message_codec.specs.declared.messages.Msg.TheVariants as msg
 use Rattle.message_codec.specs.declared.clip_mark.ClipMark.{ClipMark}
 use Rattle.message_codec.specs.declared.clip_mark.ClipMark.TheVariants as mark
 use Rattle.message_codec.specs.declared.coding.Code.TheVariants as code
-use Rattle.message_codec.specs.Fields.{Fits, Words, spelled}
+use Rattle.message_codec.specs.Fields.{Words, spelled}
 use Rattle.message_codec.specs.Marks.{mark_number}
 use Rattle.message_codec.specs.Table.{text}
 use Rattle.message_codec.specs.Spelling.{body_of}
 use Rattle.message_codec.specs.Streams.{AreBytes}
 use Rattle.message_codec.proofs.Putting.{length-spelled_words}
-use Rattle.clip_chunks.specs.Parts.{Part, part, message_of}
-use Rattle.clip_chunks.specs.Sending.{cut_into, full_chunk, chunks_of, parts_of}
+use Rattle.clip_chunks.specs.Parts.{part, message_of}
+use Rattle.clip_chunks.specs.Sending.{cut_into, full_chunk, parts_of}
 use Rattle.message_reader.proofs.Completing.{bytes-after}
 use Rattle.clip_chunks.proofs.Sizes.{digits}
 use Rattle.both_ends.specs.Writing.{IsWritable}

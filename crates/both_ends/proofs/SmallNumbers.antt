@@ -1,8 +1,8 @@
 -- Numbers that fit the fields of messages: masks, ids, points.
-use Rattle.std.specs.Prelude.{◌≡◌, refl, ℕ, zero, suc, ◌+◌, ◌*◌, ◌/◌, ◌-◌, ◌<◌, ◌≤◌, ◌^◌, ℤ, pos, negsuc, ◌+ℤ◌, ◌-ℤ◌, ◌≤ℤ◌, nat_abs, int_div, bit_or, bit_xor, Bool, true, false, nat_eq, List, [], ◌∷◌, Option, Some, None, unwrap_or, if◌then◌else◌}
+use Rattle.std.specs.Prelude.{ℕ, zero, suc, ◌*◌, ◌<◌, ◌≤◌, ◌^◌, ℤ, pos, negsuc, ◌+ℤ◌, ◌-ℤ◌, ◌≤ℤ◌, nat_abs, int_div, Bool, true, false, nat_eq, List, [], ◌∷◌, Option, Some, None, unwrap_or, if◌then◌else◌}
 use Rattle.std.specs.Int.{int_min, int_max}
 use Rattle.std.specs.List.{AllByRecursion}
-use Rattle.std.proofs.Common.{arith, lit≤, w16, FitsSigned}
+use Rattle.std.proofs.Common.{arith, w16, FitsSigned}
 use Rattle.std.proofs.lemmas.Int.{ints, int_max_is, int_min_is}
 use Rattle.std.proofs.lemmas.Nat.{or_of_16, xor_of_16}
 use Rattle.share_base.specs.declared.shape.Shape.{Shape}
@@ -13,11 +13,11 @@ use Rattle.screen_links.specs.Places.{pixel_of}
 use Rattle.modifier_map.specs.declared.class.ModClass.{ModClass}
 use Rattle.modifier_map.specs.declared.class.ModClass.TheVariants as class
 use Rattle.modifier_map.specs.Table.{row, bit_of, lock_bit}
-use Rattle.modifier_map.specs.Presses.{Call, Press, Release, down, class_down, bit_at, mods_below, mods_of, toggles_of}
+use Rattle.modifier_map.specs.Presses.{Call, Press, Release, down, class_down, bit_at, mods_below, toggles_of}
 use Rattle.machine.specs.States.{State, Point}
 use Rattle.machine.specs.Screens.{middle, clamped}
-use Rattle.machine.specs.Modifiers.{mask, toggles, mods, id_at}
-use Rattle.machine.specs.Crossing.{column_at, row_at, last_column, last_row, entry_point}
+use Rattle.machine.specs.Modifiers.{mask, toggles, mods}
+use Rattle.machine.specs.Crossing.{entry_point}
 use Rattle.machine.specs.Switching.{next_sequence}
 
 -- ---- masks

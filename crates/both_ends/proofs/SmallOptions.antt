@@ -1,13 +1,12 @@
 -- The numbers of a configuration that was read: those of its actions, its options on the wire, its links, and its limit of
 -- clipboards.
-use Rattle.std.specs.Prelude.{◌≡◌, refl, ℕ, zero, suc, ◌+◌, ◌*◌, ◌<◌, ◌≤◌, ◌^◌, Bool, true, false, not, ◌&&◌, ◌==◌, cond, nat_lt, nat_le, List, [], ◌∷◌, ◌++◌, length, All, Option, Some, None, unwrap_or, slice_get, if◌then◌else◌}
+use Rattle.std.specs.Prelude.{◌≡◌, refl, ℕ, zero, suc, ◌+◌, ◌*◌, ◌<◌, ◌≤◌, ◌^◌, Bool, true, false, not, ◌&&◌, ◌==◌, cond, nat_lt, List, [], ◌∷◌, ◌++◌, length, All, Option, Some, None, unwrap_or, slice_get}
 use Rattle.std.specs.List.{flat_map, list_all, find, AllByRecursion}
 use Rattle.std.specs.Option.{option_map}
-use Rattle.std.proofs.Common.{arith, ap, sym, subst, ◌∙◌, ltb-true, leb-true}
+use Rattle.std.proofs.Common.{arith, ap, subst, ltb-true, leb-true}
 use Rattle.std.proofs.lemmas.Bool.{and_parts}
 use Rattle.std.proofs.lemmas.Bool.Decides.{nat_tests}
 use Rattle.std.proofs.lemmas.List.{length-append}
-use Rattle.std.proofs.lemmas.List.Folds.{list_all-append}
 use Rattle.std.proofs.lemmas.List.Elements.{All-head, All-tail}
 use Rattle.share_base.specs.declared.shape.Side.{Side}
 use Rattle.share_base.specs.declared.numbers.RuleNo.{RuleNo}
@@ -24,13 +23,13 @@ use Rattle.option_table.specs.Table.{row_of, options}
 use Rattle.option_table.specs.Values.{suits}
 use Rattle.option_table.specs.Settings.{Values, none_set, setting, standing, own_or_all}
 use Rattle.option_table.specs.Scopes.{stands_below_screen, stands_for_all, may_be, are_settings}
-use Rattle.option_table.specs.Wire.{pair, sent_of, wire_words}
+use Rattle.option_table.specs.Wire.{pair, sent_of}
 use Rattle.option_table.proofs.PrintedAgain.{row_value_fits}
 use Rattle.hotkey_rules.specs.declared.action.Action.{Action}
 use Rattle.hotkey_rules.specs.declared.action.Action.TheVariants as action
 use Rattle.hotkey_rules.specs.declared.rule.Rule.{Rule}
 use Rattle.hotkey_rules.specs.Rules.{press_of, release_of}
-use Rattle.hotkey_rules.specs.WellFormed.{is_action, is_key, is_key_chord, are_mods, is_mouse_button, is_mouse_chord}
+use Rattle.hotkey_rules.specs.WellFormed.{is_action}
 use Rattle.screen_config.specs.declared.screens.Screen.{Screen}
 use Rattle.screen_config.specs.Configurations.{Configuration}
 use Rattle.screen_config.specs.ActionKeys.{actions_in, action_keys, place_of, button_of, with_button}

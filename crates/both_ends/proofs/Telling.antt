@@ -1,6 +1,6 @@
 -- What the machine tells, and what that rests on. What each of these steps keeps, every rule keeps but an acceptance: no
 -- matter who lives, and which screen is active.
-use Rattle.std.specs.Prelude.{◌≡◌, ℕ, ℤ, Bool, true, false, List, [], ◌∷◌, ◌++◌, map, Option, Some, unwrap_or, if◌then◌else◌}
+use Rattle.std.specs.Prelude.{◌≡◌, ℕ, ℤ, Bool, true, false, List, [], ◌++◌, map, Option, Some, unwrap_or, if◌then◌else◌}
 use Rattle.std.specs.List.{AllByRecursion}
 use Rattle.share_base.specs.declared.clip_id.ClipId.{ClipId}
 use Rattle.share_base.specs.declared.shape.Shape.{Shape}

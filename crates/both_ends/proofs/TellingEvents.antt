@@ -2,7 +2,7 @@
 use Rattle.std.specs.Prelude.{◌≡◌, refl, ℕ, ℤ, Bool, true, false, not, ◌&&◌, List, [], ◌∷◌, Option, Some, None, unwrap_or, if◌then◌else◌}
 use Rattle.std.specs.List.{AllByRecursion}
 use Rattle.std.specs.Option.{option_map, option_and_then, option_or}
-use Rattle.std.proofs.Common.{arith, sym, subst, ap}
+use Rattle.std.proofs.Common.{sym, subst, ap}
 use Rattle.share_base.specs.declared.shape.Side.{Side}
 use Rattle.share_base.specs.declared.numbers.RuleNo.{RuleNo}
 use Rattle.screen_links.specs.declared.link.Landing.{Landing}
@@ -14,17 +14,16 @@ use Rattle.message_codec.specs.declared.messages.Msg.TheVariants as msg
 use Rattle.hotkey_rules.specs.Rules.{press_of, release_of}
 use Rattle.hotkey_rules.specs.declared.action.Action.{Action}
 use Rattle.hotkey_rules.specs.declared.action.Action.TheVariants as action
-use Rattle.machine.specs.Scripts.{Line}
 use Rattle.machine.specs.Scripts as line
 use Rattle.machine.specs.Targets.{Target, Primary, Origin, OfLine, OfAction, same_target}
 use Rattle.machine.specs.States.{State, Point}
-use Rattle.machine.specs.Combining.{for_some, for_each, unchanged}
-use Rattle.machine.specs.Screens.{shape_of, target_of, middle, clamped}
+use Rattle.machine.specs.Combining.{for_some, unchanged}
+use Rattle.machine.specs.Screens.{shape_of, target_of, middle}
 use Rattle.machine.specs.Routing.{route}
 use Rattle.machine.specs.Modifiers.{mask, id_at}
 use Rattle.machine.specs.GateCalls.{passes, hear_away}
 use Rattle.machine.specs.Edges.{Way, is_blocked, landing, edge_at_cursor, passed_edge, way, way_on, first_way}
-use Rattle.machine.specs.Crossing.{Cross, Stay, Switch, through, switch_at, entry_point, stay, cross, cross_by, moved_point}
+use Rattle.machine.specs.Crossing.{Cross, Stay, Switch, through, entry_point, stay, cross, cross_by, moved_point}
 use Rattle.machine.specs.Switching.{switch}
 use Rattle.machine.specs.Actions.{locked_by, act, act_all, may_switch, switch_to, switch_toward, enter_landing}
 use Rattle.machine.specs.Routes.{One, moves_by, key_rule, button_rule, taking, to_hotkey, unless_taken}

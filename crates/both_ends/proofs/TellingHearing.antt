@@ -1,5 +1,5 @@
 -- What messages of clients do, told by the steps that rules are made of.
-use Rattle.std.specs.Prelude.{◌≡◌, refl, ℕ, Bool, true, ◌∷◌, [], Option, Some, None}
+use Rattle.std.specs.Prelude.{◌≡◌, refl, ℕ, ◌∷◌, [], Option, Some, None}
 use Rattle.share_base.specs.declared.shape.Shape.{Shape}
 use Rattle.message_codec.specs.declared.messages.Msg.{Msg}
 use Rattle.message_codec.specs.declared.messages.Msg.TheVariants as msg

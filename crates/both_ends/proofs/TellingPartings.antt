@@ -1,5 +1,5 @@
 -- What switches, partings and losses do, told by the steps that rules are made of.
-use Rattle.std.specs.Prelude.{◌≡◌, refl, ℕ, Bool, true, [], ◌∷◌, length}
+use Rattle.std.specs.Prelude.{refl, ℕ, [], ◌∷◌, length}
 use Rattle.message_codec.specs.declared.messages.Msg.TheVariants as msg
 use Rattle.hello_states.specs.declared.part_cause.PartCause.{PartCause}
 use Rattle.hello_states.specs.declared.part_cause.PartCause.TheVariants as cause

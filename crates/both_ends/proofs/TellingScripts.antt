@@ -1,5 +1,5 @@
 -- What lines of the script and timers do, told by the steps that rules are made of.
-use Rattle.std.specs.Prelude.{◌≡◌, refl, ℕ, nat_le, Bool, true, List, [], ◌∷◌, if◌then◌else◌}
+use Rattle.std.specs.Prelude.{refl, ℕ, nat_le, Bool, true, List, [], ◌∷◌, if◌then◌else◌}
 use Rattle.std.specs.List.{AllByRecursion}
 use Rattle.message_codec.specs.declared.messages.Msg.TheVariants as msg
 use Rattle.option_table.specs.declared.rows.OptionName.TheVariants as option

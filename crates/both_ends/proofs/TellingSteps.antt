@@ -1,5 +1,5 @@
 -- What happenings do but an acceptance, told by the steps that rules are made of.
-use Rattle.std.specs.Prelude.{◌≡◌, ℕ, zero, suc, List, [], ◌∷◌, ◌++◌, length, drop}
+use Rattle.std.specs.Prelude.{ℕ, zero, suc, List, [], ◌∷◌, ◌++◌, length, drop}
 use Rattle.std.specs.List.{AllByRecursion}
 use Rattle.message_codec.specs.declared.messages.Msg.{Msg}
 use Rattle.message_codec.specs.Inboxes.{Inbox}
@@ -16,7 +16,7 @@ use Rattle.machine.specs.Slow.{part_slow}
 use Rattle.machine.specs.Hearing.{hear}
 use Rattle.machine.specs.Timers.{after_timers}
 use Rattle.machine.specs.Happenings.{Happening, Joined, Got, Ended, Failed, Took, Moment, Closed}
-use Rattle.machine.specs.Steps.{inbox_of, received_by, receives, judge, hear_added, hear_piece, got, drops, breaks, takes, close, moment, step}
+use Rattle.machine.specs.Steps.{inbox_of, received_by, receives, judge, hear_added, hear_piece, got, drops, breaks, takes, step}
 use Rattle.machine.proofs.Rules.{when-keeps-if, choose-keeps, for_some-keeps}
 use Rattle.both_ends.proofs.Telling.{Kinds, IsTelling}
 use Rattle.both_ends.proofs.TellingPartings.{part-tells, part_slow-tells}

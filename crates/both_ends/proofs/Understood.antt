@@ -1,7 +1,7 @@
 -- The law of both ends.
-use Rattle.std.specs.Prelude.{◌≡◌, refl, ℕ, ◌+◌, Bool, true, false, not, ◌&&◌, ◌||◌, List, [], ◌∷◌, ◌++◌, map, filter, if◌then◌else◌}
+use Rattle.std.specs.Prelude.{◌≡◌, refl, ℕ, ◌+◌, Bool, true, false, not, ◌&&◌, ◌||◌, List, [], ◌∷◌, ◌++◌, map, if◌then◌else◌}
 use Rattle.std.specs.List.{list_all, AllByRecursion}
-use Rattle.std.proofs.Common.{arith, ap, sym, subst, ◌∙◌, append_assoc}
+use Rattle.std.proofs.Common.{ap, sym, subst, ◌∙◌, append_assoc}
 use Rattle.std.proofs.lemmas.Bool.{and_parts}
 use Rattle.std.proofs.lemmas.List.{append-nil, map-append}
 use Rattle.message_codec.specs.declared.messages.End.TheVariants as ends
@@ -12,26 +12,24 @@ use Rattle.message_codec.specs.Spelling.{body_of, Spells}
 use Rattle.message_codec.specs.Streams.{AreBytes, AllGood}
 use Rattle.message_reader.specs.Roles as roles
 use Rattle.message_reader.specs.Roles.{is_hello}
-use Rattle.message_reader.specs.declared.role.Role.TheVariants as role
 use Rattle.message_reader.specs.Endings.{IsFront}
 use Rattle.clip_chunks.specs.Parts.{part_of, parts_among}
 use Rattle.clip_chunks.specs.OpenRuns.{Whole, wholes_among, brought}
 use Rattle.clip_chunks.proofs.WholesGrow.{wholes_grow}
 use Rattle.held_inputs.specs.declared.line.Line.{Line}
 use Rattle.client_core.specs.declared.clipboards.TheConstants.{CLIP_LIMIT}
-use Rattle.client_core.specs.Clipboards.{whole_line, tells_bytes}
+use Rattle.client_core.specs.Clipboards.{whole_line}
 use Rattle.client_core.specs.Clients.{Client}
-use Rattle.client_core.specs.Happenings.{Happening, joining, lines, run}
+use Rattle.client_core.specs.Happenings.{joining, run}
 use Rattle.client_core.proofs.ToldWholes.{told-joining}
 use Rattle.machine.specs.Targets.{Entry}
 use Rattle.machine.specs.Targets as target
-use Rattle.machine.specs.States.{State}
 use Rattle.machine.specs.Queues.{entries_for, messages_in, messages_for, size, fits, fitting, queued_messages}
 use Rattle.std.specs.Prelude.{reverse}
 use Rattle.both_ends.specs.Greetings.{greeting, may_follow, IsGreetedFirst}
 use Rattle.both_ends.specs.Feeding.{fed_by}
 use Rattle.both_ends.specs.Writing.{IsWritable}
-use Rattle.both_ends.specs.Understanding.{Understands, BothEnds}
+use Rattle.both_ends.specs.Understanding.{BothEnds}
 use Rattle.both_ends.specs.Understanding as understanding
 use Rattle.both_ends.proofs.ByteBodies.{bytes-before, frames-bytes}
 use Rattle.both_ends.proofs.Cutting.{fine-box}
@@ -128,6 +126,7 @@ both-ends o before latest s serial by sound types bytes happenings rest is blame
     let more = wholes-front CLIP_LIMIT c.heard all_front.0 in
     let told_wholes = told-joining name width height script now happenings in
     record {
+      good = box.none;
       fine = fed.fine;
       of_queue = of_queue;
       heard = fed.heard;

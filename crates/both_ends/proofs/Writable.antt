@@ -1,36 +1,32 @@
 -- All that is told can be written.
-use Rattle.std.specs.Prelude.{◌≡◌, refl, ℕ, ◌+◌, ◌*◌, ◌≤◌, ◌<◌, Bool, true, false, cond, nat_le, pos, List, [], ◌∷◌, ◌++◌, length, Option, None, Some, unwrap_or}
+use Rattle.std.specs.Prelude.{◌≡◌, ℕ, ◌≤◌, ◌<◌, Bool, true, false, cond, nat_le, pos, List, [], ◌∷◌, ◌++◌, length, Some, unwrap_or}
 use Rattle.std.specs.List.{AllByRecursion}
-use Rattle.std.proofs.Common.{arith, ap, sym, subst, ◌∙◌, leb-true}
+use Rattle.std.proofs.Common.{arith, sym, subst, leb-true}
 use Rattle.std.proofs.lemmas.Int.{ints}
 use Rattle.share_base.specs.declared.clip_id.ClipId.{ClipId}
-use Rattle.share_base.specs.declared.shape.Shape.{Shape}
 use Rattle.share_base.specs.Shapes.{IsScreenShape}
 use Rattle.screen_links.specs.declared.link.Landing.{Landing}
 use Rattle.edge_cross.specs.declared.edge.Edge.{Edge}
-use Rattle.message_codec.specs.declared.messages.Msg.{Msg}
 use Rattle.message_codec.specs.declared.messages.Msg.TheVariants as msg
 use Rattle.message_codec.specs.Streams.{AreBytes}
 use Rattle.message_reader.proofs.Stepping.{bytes-append}
 use Rattle.hotkey_rules.specs.declared.action.Action.{Action}
 use Rattle.hotkey_rules.specs.declared.action.Action.TheVariants as action
 use Rattle.hotkey_rules.specs.Rules.{press_of, release_of}
-use Rattle.option_table.specs.declared.rows.OptionName.TheVariants as option
 use Rattle.screen_config.specs.Globals.{wire_options_of}
-use Rattle.screen_config.specs.Sound.{IsSound}
 use Rattle.hello_states.specs.declared.part_cause.PartCause.TheVariants as cause
 use Rattle.clip_chunks.specs.Parts.{Part}
 use Rattle.clip_chunks.specs.OpenRuns.{whole_at}
-use Rattle.clip_chunks.specs.Clips.{Clip, clip_of, with_clip}
+use Rattle.clip_chunks.specs.Clips.{clip_of}
 use Rattle.clip_chunks.specs.Rules as rules
 use Rattle.clip_chunks.specs.Wholes.{EndsWhole}
 use Rattle.clip_chunks.proofs.EndedRuns.{ends_whole}
-use Rattle.machine.specs.Scripts.{Script, Line, KeyDown, KeyRepeat, KeyUp, ButtonDown, ButtonUp, Motion, Wheel, Copy}
+use Rattle.machine.specs.Scripts.{Line, KeyDown, KeyUp, ButtonDown, ButtonUp, Copy}
 use Rattle.machine.specs.Targets.{Target, Client, Own, Entry, same_target}
-use Rattle.machine.specs.Connections.{Connection, fresh, has_serial, removed}
+use Rattle.machine.specs.Connections.{Connection, fresh}
 use Rattle.machine.specs.States.{State}
 use Rattle.machine.specs.Queues.{entries_for, messages_in, messages_for}
-use Rattle.machine.specs.Screens.{is_screen_joined, middle}
+use Rattle.machine.specs.Screens.{is_screen_joined}
 use Rattle.machine.specs.Modifiers.{mask, id_at, toggles}
 use Rattle.machine.specs.Clipboards.{clip_limit}
 use Rattle.machine.specs.Hearing.{parts_from}
@@ -39,23 +35,23 @@ use Rattle.machine.specs.Routing.{entry}
 use Rattle.machine.specs.Switching.{next_sequence}
 use Rattle.machine.specs.Partings.{part}
 use Rattle.machine.specs.Events.{holding}
-use Rattle.machine.specs.Acceptance.{start, most_open, opened, greet, accept}
+use Rattle.machine.specs.Acceptance.{most_open, opened, greet, accept}
 use Rattle.machine.specs.Happenings.{Happening, Joined, Got, Ended, Failed, Took, Moment, Closed}
 use Rattle.machine.specs.Steps.{step, run}
 use Rattle.machine.proofs.Rules.{choose-keeps}
 use Rattle.reached_states.specs.Reaching.{start_of}
 use Rattle.both_ends.specs.Greetings.{greeting}
-use Rattle.both_ends.specs.Numbers.{IsOfTypes, HasTypes, BringsBytes, AllIsWritable}
+use Rattle.both_ends.specs.Numbers.{IsOfTypes, BringsBytes, AllIsWritable}
 use Rattle.both_ends.specs.Writing.{IsWritable}
 use Rattle.both_ends.proofs.Telling.{Kinds, Says, IsTelling}
 use Rattle.both_ends.proofs.TellingPartings.{part-tells}
-use Rattle.both_ends.proofs.TellingSteps.{Brings, step-tells}
-use Rattle.both_ends.proofs.SmallNumbers.{IsPixel, IsSmallPress, toggles-small, mask-small, id-small, middle-pixel, clamped-pixel, entry-pixel, sequence-small}
+use Rattle.both_ends.proofs.TellingSteps.{step-tells}
+use Rattle.both_ends.proofs.SmallNumbers.{IsPixel, toggles-small, mask-small, id-small, middle-pixel, clamped-pixel, entry-pixel, sequence-small}
 use Rattle.both_ends.proofs.SmallMessages as messages
-use Rattle.both_ends.proofs.SmallOptions.{IsSmallAction, press-small, release-small, AreFewAndSmall, wire-small, sharing-small, landing-on_side}
+use Rattle.both_ends.proofs.SmallOptions.{IsSmallAction, press-small, release-small, wire-small, sharing-small, landing-on_side}
 use Rattle.both_ends.proofs.InRange as range
 use Rattle.both_ends.proofs.WholeBytes.{ended-bytes}
-use Rattle.both_ends.proofs.InRange.{IsBytePart, IsSmallConnection, KeepsSmall, IsHeard, IsShort, IsSmallClip, AreSmallClips, IsWritableEntry, AreSmall, IsSmall}
+use Rattle.both_ends.proofs.InRange.{IsBytePart, IsSmallConnection, KeepsSmall, IsHeard, IsShort, IsSmallClip, IsWritableEntry, IsSmall}
 
 abbrev pub kinds : Kinds
 kinds = record {

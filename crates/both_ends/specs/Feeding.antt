@@ -1,9 +1,9 @@
 -- A client that is fed the bytes that a server queued for it, in any pieces.
-use Rattle.std.specs.Prelude.{ℕ, Bool, true, false, List, [], Option, Some, None}
+use Rattle.std.specs.Prelude.{ℕ, Bool, true, false, List, [], Option, Some}
 use Rattle.std.specs.List.{flat_map}
 use Rattle.client_core.specs.declared.client_end.ClientEnd.{ClientEnd}
 use Rattle.client_core.specs.declared.client_end.ClientEnd.TheVariants as end
-use Rattle.client_core.specs.Happenings.{Happening, Got, Moment, Took, Ended}
+use Rattle.client_core.specs.Happenings.{Happening, Got, Ended}
 
 -- the bytes that came, in all pieces
 abbrev pub piece_of : Happening → List ℕ

@@ -27,7 +27,8 @@ messages_in bytes = (inbox client bytes).messages
 
 -- a client that was fed these bytes of a queue of those messages
 pub record Understands (queued : List Msg) (fed : List ℕ) (c : Client) : Type 0 where
-  -- it found nothing that a server may not send
+  -- nothing in them is bad, and it doesn't end as if something were
+  pub good : (inbox client fed).bad ≡ None
   pub fine : is_bad_peer c.done ≡ false
   -- it heard messages that were queued: all that came as long as it goes on, else the first of them
   pub of_queue : IsFront (messages_in fed) queued
