@@ -1,5 +1,5 @@
 -- The bodies of messages are bytes, where their texts are.
-use Rattle.std.specs.Prelude.{ℕ, List, [], ◌∷◌, ◌++◌, length}
+use Rattle.std.specs.Prelude.{ℕ, ◌<◌, ◌^◌, List, [], ◌∷◌, ◌++◌, length}
 use Rattle.std.specs.Int.{w16, w32, to_be_bytes, cast_unsigned}
 use Rattle.std.specs.List.{flat_map, AllByRecursion}
 use Rattle.std.proofs.Common.{arith}
@@ -13,10 +13,10 @@ use Rattle.message_codec.specs.Streams.{AreBytes, frame_of, frames_of}
 use Rattle.message_reader.proofs.Stepping.{bytes-append}
 use Rattle.message_reader.proofs.Completing.{bytes-after}
 use Rattle.both_ends.specs.Writing.{HasByteText, IsWritable}
+use Rattle.both_ends.proofs.AllOfLists.{all-first}
 
 pub bytes-before : (xs ys : List ℕ) → AreBytes (xs ++ ys) → AreBytes xs
-bytes-before [] ys h = tt
-bytes-before (x ∷ xs) ys h = (h.0, bytes-before xs ys h.1)
+bytes-before xs ys h = all-first (λ b. b < 2 ^ 8) xs ys h
 
 -- ---- numbers
 

@@ -1,5 +1,5 @@
 -- States in which all that may be told can be written.
-use Rattle.std.specs.Prelude.{◌≡◌, refl, ℕ, ◌≤◌, ◌==◌, ℤ, pos, negsuc, ◌+ℤ◌, ◌≤ℤ◌, int_le, Bool, true, false, cond, ◌&&◌, nat_le, FitsSigned, List, [], ◌∷◌, ◌++◌, length, filter, Option, Some, None, unwrap_or, if◌then◌else◌}
+use Rattle.std.specs.Prelude.{◌≡◌, refl, ℕ, ◌≤◌, ◌==◌, ℤ, pos, negsuc, ◌+ℤ◌, ◌≤ℤ◌, int_le, Bool, true, false, cond, ◌&&◌, nat_le, FitsSigned, List, [], ◌∷◌, ◌++◌, length, Option, Some, None, unwrap_or, if◌then◌else◌}
 use Rattle.std.specs.Int.{w16}
 use Rattle.std.specs.List.{find, AllByRecursion}
 use Rattle.std.specs.Option.{option_map, option_and_then}
@@ -64,14 +64,6 @@ all-changed serial f keeps (c ∷ cs) h = (at (has_serial serial c), all-changed
     at : (b : Bool) → IsSmallConnection (when b f c)
     at true = keeps c h.0
     at false = h.0
-
-pub all-removed : (test : Connection → Bool) (cs : List Connection) → AllByRecursion IsSmallConnection cs → AllByRecursion IsSmallConnection (filter test cs)
-all-removed test [] h = tt
-all-removed test (c ∷ cs) h = by (test c) (all-removed test cs h.1)
-  where
-    by : (b : Bool) → AllByRecursion IsSmallConnection (filter test cs) → AllByRecursion IsSmallConnection (cond b (c ∷ filter test cs) (filter test cs))
-    by true rest = (h.0, rest)
-    by false rest = rest
 
 found_small : (test : Connection → Bool) (cs : List Connection) (c : Connection) → AllByRecursion IsSmallConnection cs → find test cs ≡ Some c → IsSmallConnection c
 found_small test [] c h e = grind (arith, e)

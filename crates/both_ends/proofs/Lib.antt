@@ -1,3 +1,4 @@
+pub mod AllOfLists
 pub mod Greeted
 pub mod Telling
 pub mod TellingClipboards
@@ -20,3 +21,4 @@ pub mod InputLines
 pub mod MappedScreens
 pub mod Fed
 pub mod Understood
+mod Rows

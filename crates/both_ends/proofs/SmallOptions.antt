@@ -37,6 +37,7 @@ use Rattle.screen_config.specs.SoundHotkeys.{action_below, is_action_among, HasI
 use Rattle.screen_config.specs.Sound.{has_own_settings, IsSound}
 use Rattle.screen_config.specs.Globals.{own_in, own_of, wire_options_of}
 use Rattle.machine.proofs.Finding.{none_some, some_is}
+use Rattle.both_ends.proofs.AllOfLists.{all-first, all-last, all-join}
 
 -- ---- actions
 
@@ -97,14 +98,6 @@ small_actions count keys [] few h b = tt
 small_actions count keys (a ∷ actions) few h b =
     let parts = and_parts (is_action_among count a) (list_all (is_action_among count) actions) h in
     (small_action keys a few (and_parts (is_action a) (action_below count a) parts.0).0 (All-head (HasItsButton keys) a actions b), small_actions count keys actions few parts.1 (All-tail (HasItsButton keys) a actions b))
-
-all-first : {A : Type 0} (P : A → Type 0) (xs ys : List A) → AllByRecursion P (xs ++ ys) → AllByRecursion P xs
-all-first P [] ys h = tt
-all-first P (x ∷ xs) ys h = (h.0, all-first P xs ys h.1)
-
-all-last : {A : Type 0} (P : A → Type 0) (xs ys : List A) → AllByRecursion P (xs ++ ys) → AllByRecursion P ys
-all-last P [] ys h = h
-all-last P (x ∷ xs) ys h = all-last P xs ys h.1
 
 -- of a rule
 rule_actions : (rules : List Rule) (n : ℕ) (rule : Rule) → AllByRecursion IsSmallAction (actions_in rules) → slice_get rules n ≡ Some rule → AllByRecursion IsSmallAction rule.press × AllByRecursion IsSmallAction rule.release
@@ -169,10 +162,6 @@ pair_small None value h k = (tt, omega arith)
 pair_small (Some code) None h k = (tt, omega arith)
 pair_small (Some code) (Some value) h k = ((h, (k, tt)), omega arith)
 
-all-both : (xs ys : List ℕ) → AllByRecursion IsSmall xs → AllByRecursion IsSmall ys → AllByRecursion IsSmall (xs ++ ys)
-all-both [] ys h k = k
-all-both (x ∷ xs) ys h k = (h.0, all-both xs ys h.1 k)
-
 words_small : (own all : Values) (os : List OptionName) → list_all (λ (o : OptionName). may_be stands_below_screen o (setting own o)) os ≡ true → list_all (λ (o : OptionName). may_be stands_for_all o (setting all o)) os ≡ true
     → AllByRecursion IsSmall (flat_map (sent_of own all) os) × (length (flat_map (sent_of own all) os) ≤ 2 * length os)
 unfolding sent_of
@@ -183,7 +172,7 @@ words_small own all (o ∷ os) h k =
     let value : HasSmall (own_or_all (setting own o) (setting all o)) = either_small (setting own o) (setting all o) (setting_small stands_below_screen o (setting own o) a.0) (setting_small stands_for_all o (setting all o) b.0) in
     let here = pair_small (row_of o).code (own_or_all (setting own o) (setting all o)) (code_small o) value in
     let rest = words_small own all os a.1 b.1 in (
-      all-both (pair (row_of o).code (own_or_all (setting own o) (setting all o))) (flat_map (sent_of own all) os) here.0 rest.0,
+      all-join IsSmall (pair (row_of o).code (own_or_all (setting own o) (setting all o))) (flat_map (sent_of own all) os) here.0 rest.0,
       omega (arith, here.1, rest.1, length-append (pair (row_of o).code (own_or_all (setting own o) (setting all o))) (flat_map (sent_of own all) os)),
     )
 

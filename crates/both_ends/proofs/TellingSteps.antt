@@ -1,5 +1,5 @@
 -- What happenings do but an acceptance, told by the steps that rules are made of.
-use Rattle.std.specs.Prelude.{ℕ, zero, suc, List, [], ◌∷◌, ◌++◌, length, drop}
+use Rattle.std.specs.Prelude.{ℕ, List, [], ◌∷◌, ◌++◌, length, drop}
 use Rattle.std.specs.List.{AllByRecursion}
 use Rattle.message_codec.specs.declared.messages.Msg.{Msg}
 use Rattle.message_codec.specs.Inboxes.{Inbox}
@@ -22,6 +22,7 @@ use Rattle.both_ends.proofs.Telling.{Kinds, IsTelling}
 use Rattle.both_ends.proofs.TellingPartings.{part-tells, part_slow-tells}
 use Rattle.both_ends.proofs.TellingScripts.{run_script-tells, after_timers-tells}
 use Rattle.both_ends.proofs.TellingHearing.{hear-tells}
+use Rattle.both_ends.proofs.AllOfLists.{all-drop}
 
 judge-tells : {k : Kinds} (i : IsTelling k) (serial : ℕ) (box : Inbox) (s : State) → k.state s → k.state (judge serial box s)
 judge-tells {k} i serial box s h = for_some-keeps k.state box.bad (λ why. when (lives s serial) (λ t. part_slow (part (cause.Bad box.place why) serial t))) unchanged s (λ why e. when-keeps-if k.state (lives s serial) (λ t. part_slow (part (cause.Bad box.place why) serial t)) s (λ f. part_slow-tells i (part (cause.Bad box.place why) serial s) (part-tells i (cause.Bad box.place why) serial s h)) h) h
@@ -29,12 +30,6 @@ judge-tells {k} i serial box s h = for_some-keeps k.state box.bad (λ why. when 
 hear_each-tells : {k : Kinds} (i : IsTelling k) (serial : ℕ) (ms : List Msg) → AllByRecursion k.heard ms → (s : State) → k.state s → k.state (for_each ms (hear serial) s)
 hear_each-tells i serial [] c s h = h
 hear_each-tells i serial (m ∷ ms) c s h = hear_each-tells i serial ms c.1 (hear serial m s) (hear-tells i serial m s c.0 h)
-
--- what all have, those after the first have
-pub all-drop : {A : Type 0} (P : A → Type 0) (n : ℕ) (xs : List A) → AllByRecursion P xs → AllByRecursion P (drop n xs)
-all-drop P zero xs h = h
-all-drop P (suc n) [] h = h
-all-drop P (suc n) (x ∷ xs) h = all-drop P n xs h.1
 
 hear_added-tells : {k : Kinds} (i : IsTelling k) (serial : ℕ) (old new : Inbox) (s : State) → AllByRecursion k.heard new.messages → k.state s → k.state (hear_added serial old new s)
 hear_added-tells {k} i serial old new s c h = judge-tells i serial new (for_each (drop (length old.messages) new.messages) (hear serial) s) (hear_each-tells i serial (drop (length old.messages) new.messages) (all-drop k.heard (length old.messages) new.messages c) s h)

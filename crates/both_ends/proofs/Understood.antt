@@ -37,6 +37,7 @@ use Rattle.both_ends.proofs.MappedScreens.{joining-keys}
 use Rattle.both_ends.proofs.Fed.{IsFed, run-fed}
 use Rattle.both_ends.proofs.GreetedFirst.{greeted-first}
 use Rattle.both_ends.proofs.Writable.{all-writable}
+use Rattle.both_ends.proofs.AllOfLists.{all-first}
 
 -- ---- what is queued are the first of what was told
 
@@ -52,10 +53,6 @@ queued-front : (routed : List Entry) (serial : ℕ) → IsFront (queued_messages
 queued-front routed serial =
     let f = fitting-front 0 (entries_for (target.Client serial) routed) in
     (messages_in f.0, ap messages_in f.1 ∙ map-append (λ (e : Entry). e.message) (fitting 0 (entries_for (target.Client serial) routed)) f.0)
-
-all-front : {A : Type 0} (P : A → Type 0) (xs ys : List A) → AllByRecursion P (xs ++ ys) → AllByRecursion P xs
-all-front P [] ys h = tt
-all-front P (x ∷ xs) ys h = (h.0, all-front P xs ys h.1)
 
 list_all-front : (test : Msg → Bool) (xs ys : List Msg) → list_all test (xs ++ ys) ≡ true → list_all test xs ≡ true
 list_all-front test [] ys h = refl
@@ -114,7 +111,7 @@ both-ends o before latest s serial by sound types bytes happenings rest is blame
     let queued : List Msg = queued_messages s.routed serial in
     let front : IsFront queued told = queued-front s.routed serial in
     let greeted : IsGreetedFirst queued = greeted-front queued front.0 (subst IsGreetedFirst front.1 (greeted-first o latest s serial (record { happenings = before; by = by }))) in
-    let writable : AllByRecursion IsWritable queued = all-front IsWritable queued front.0 (subst (AllByRecursion IsWritable) front.1 (all-writable o before latest s by sound types bytes (target.Client serial))) in
+    let writable : AllByRecursion IsWritable queued = all-first IsWritable queued front.0 (subst (AllByRecursion IsWritable) front.1 (all-writable o before latest s by sound types bytes (target.Client serial))) in
     let small : AreBytes (fed_by happenings) = bytes-before (fed_by happenings) rest (subst AreBytes is (frames-bytes queued writable)) in
     let good : AllGood roles.client [] queued = all-good queued greeted writable in
     let first : Client = joining name width height script now in

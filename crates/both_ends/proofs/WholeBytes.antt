@@ -1,8 +1,7 @@
 -- The bytes of a whole clipboard are bytes, where those of its parts are.
-use Rattle.std.specs.Prelude.{ℕ, Bool, true, false, cond, List, [], ◌∷◌, ◌++◌, map, filter, reverse}
+use Rattle.std.specs.Prelude.{ℕ, List, [], ◌∷◌, map, reverse}
 use Rattle.std.specs.List.{concat, AllByRecursion}
 use Rattle.std.proofs.Common.{sym, subst}
-use Rattle.std.proofs.lemmas.List.{reverse-append}
 use Rattle.share_base.specs.declared.clip_id.ClipId.{ClipId}
 use Rattle.message_codec.specs.declared.clip_mark.ClipMark.TheVariants as mark
 use Rattle.message_codec.specs.Streams.{AreBytes}
@@ -10,30 +9,7 @@ use Rattle.message_reader.proofs.Stepping.{bytes-append}
 use Rattle.clip_chunks.specs.Parts.{Part, part, run, of_clip, same_clip}
 use Rattle.clip_chunks.specs.Wholes.{IsWhole, EndsWhole}
 use Rattle.both_ends.proofs.InRange.{IsBytePart}
-
-all-first : {A : Type 0} (P : A → Type 0) (xs ys : List A) → AllByRecursion P (xs ++ ys) → AllByRecursion P xs
-all-first P [] ys h = tt
-all-first P (x ∷ xs) ys h = (h.0, all-first P xs ys h.1)
-
-all-last : {A : Type 0} (P : A → Type 0) (xs ys : List A) → AllByRecursion P (xs ++ ys) → AllByRecursion P ys
-all-last P [] ys h = h
-all-last P (x ∷ xs) ys h = all-last P xs ys h.1
-
-all-join : {A : Type 0} (P : A → Type 0) (xs ys : List A) → AllByRecursion P xs → AllByRecursion P ys → AllByRecursion P (xs ++ ys)
-all-join P [] ys h k = k
-all-join P (x ∷ xs) ys h k = (h.0, all-join P xs ys h.1 k)
-
-all-reverse : {A : Type 0} (P : A → Type 0) (xs : List A) → AllByRecursion P xs → AllByRecursion P (reverse xs)
-all-reverse P [] h = tt
-all-reverse P (x ∷ xs) h = subst (AllByRecursion P) (sym (reverse-append (x ∷ []) xs)) (all-join P (reverse xs) (x ∷ []) (all-reverse P xs h.1) (h.0, tt))
-
-all-filter : {A : Type 0} (P : A → Type 0) (test : A → Bool) (xs : List A) → AllByRecursion P xs → AllByRecursion P (filter test xs)
-all-filter P test [] h = tt
-all-filter P test (x ∷ xs) h = by (test x) (all-filter P test xs h.1)
-  where
-    by : (b : Bool) → AllByRecursion P (filter test xs) → AllByRecursion P (cond b (x ∷ filter test xs) (filter test xs))
-    by true rest = (h.0, rest)
-    by false rest = rest
+use Rattle.both_ends.proofs.AllOfLists.{all-first, all-last, all-reverse, all-filter}
 
 chunks_bytes : (clip : ClipId) (seq : ℕ) (chunks : List (List ℕ)) → AllByRecursion IsBytePart (map (part mark.Chunk clip seq) chunks) → AreBytes (concat chunks)
 chunks_bytes clip seq [] h = tt

@@ -1,5 +1,5 @@
 -- All that is told can be written.
-use Rattle.std.specs.Prelude.{◌≡◌, ℕ, ◌≤◌, ◌<◌, Bool, true, false, cond, nat_le, pos, List, [], ◌∷◌, ◌++◌, length, Some, unwrap_or}
+use Rattle.std.specs.Prelude.{◌≡◌, ℕ, ◌≤◌, ◌<◌, Bool, true, false, cond, nat_le, pos, List, [], ◌∷◌, length, Some, unwrap_or}
 use Rattle.std.specs.List.{AllByRecursion}
 use Rattle.std.proofs.Common.{arith, sym, subst, leb-true}
 use Rattle.std.proofs.lemmas.Int.{ints}
@@ -23,7 +23,7 @@ use Rattle.clip_chunks.specs.Wholes.{EndsWhole}
 use Rattle.clip_chunks.proofs.EndedRuns.{ends_whole}
 use Rattle.machine.specs.Scripts.{Line, KeyDown, KeyUp, ButtonDown, ButtonUp, Copy}
 use Rattle.machine.specs.Targets.{Target, Client, Own, Entry, same_target}
-use Rattle.machine.specs.Connections.{Connection, fresh}
+use Rattle.machine.specs.Connections.{fresh}
 use Rattle.machine.specs.States.{State}
 use Rattle.machine.specs.Queues.{entries_for, messages_in, messages_for}
 use Rattle.machine.specs.Screens.{is_screen_joined}
@@ -52,6 +52,7 @@ use Rattle.both_ends.proofs.SmallOptions.{IsSmallAction, press-small, release-sm
 use Rattle.both_ends.proofs.InRange as range
 use Rattle.both_ends.proofs.WholeBytes.{ended-bytes}
 use Rattle.both_ends.proofs.InRange.{IsBytePart, IsSmallConnection, KeepsSmall, IsHeard, IsShort, IsSmallClip, IsWritableEntry, IsSmall}
+use Rattle.both_ends.proofs.AllOfLists.{all-join, all-filter}
 
 abbrev pub kinds : Kinds
 kinds = record {
@@ -68,10 +69,6 @@ kinds = record {
   piece = AreBytes;
   part = IsBytePart;
 }
-
-all-more : (routed : List Entry) (e : Entry) → IsWritableEntry e → AllByRecursion IsWritableEntry routed → AllByRecursion IsWritableEntry (routed ++ e ∷ [])
-all-more [] e w h = (w, tt)
-all-more (r ∷ routed) e w h = (h.0, all-more routed e w h.1)
 
 says : (a : Action) → IsSmallAction a → Says kinds a
 says (action.KeyStroke id mods button) h = (messages.key_down-writable id.0 mods.0 button.0 h.0 h.1 h.2, messages.key_up-writable id.0 mods.0 button.0 h.0 h.1 h.2)
@@ -116,7 +113,7 @@ whole-short serial s p bytes k e h =
 
 telling : IsTelling kinds
 telling = record {
-  told = λ o t m p s h. record { sound = h.sound; script = h.script; presses_of = h.presses_of; shape = h.shape; each = h.each; both_clips = h.both_clips; told = all-more s.routed (entry o t m s) p h.told };
+  told = λ o t m p s h. record { sound = h.sound; script = h.script; presses_of = h.presses_of; shape = h.shape; each = h.each; both_clips = h.both_clips; told = all-join IsWritableEntry s.routed (entry o t m s ∷ []) h.told (p, tt) };
   bare = messages.bare-writable;
   version = messages.version-writable;
   grabs = messages.grab-writable;
@@ -167,7 +164,7 @@ telling = record {
   reshapes = range.reshapes-small;
   receives = λ piece small c h. record { shape = h.shape; bytes = bytes-append c.received piece h.bytes small; parts = h.parts };
   came = range.came-heard;
-  closed = λ serial s h. record { sound = h.sound; script = h.script; presses_of = h.presses_of; shape = h.shape; each = range.all-removed _ s.connections h.each; both_clips = h.both_clips; told = h.told };
+  closed = λ serial s h. record { sound = h.sound; script = h.script; presses_of = h.presses_of; shape = h.shape; each = all-filter IsSmallConnection _ s.connections h.each; both_clips = h.both_clips; told = h.told };
   logged = λ lines s h. h;
   locks = λ on s h. h;
   quits = λ s h. h;
@@ -180,12 +177,8 @@ telling = record {
 
 -- ---- each happening
 
-all-opened : (cs : List Connection) (c : Connection) → IsSmallConnection c → AllByRecursion IsSmallConnection cs → AllByRecursion IsSmallConnection (cs ++ c ∷ [])
-all-opened [] c k h = (k, tt)
-all-opened (d ∷ cs) c k h = (h.0, all-opened cs c k h.1)
-
 opened-small : (serial : ℕ) (s : State) → IsSmall s → IsSmall (opened serial s)
-opened-small serial s h = record { sound = h.sound; script = h.script; presses_of = h.presses_of; shape = h.shape; each = all-opened s.connections (fresh serial s.at) (record { shape = λ shape e. grind (arith, e); bytes = tt; parts = tt }) h.each; both_clips = h.both_clips; told = h.told }
+opened-small serial s h = record { sound = h.sound; script = h.script; presses_of = h.presses_of; shape = h.shape; each = all-join IsSmallConnection s.connections (fresh serial s.at ∷ []) h.each (record { shape = λ shape e. grind (arith, e); bytes = tt; parts = tt }, tt); both_clips = h.both_clips; told = h.told }
 
 accept-small : (serial : ℕ) (s : State) → IsSmall s → IsSmall (accept serial s)
 accept-small serial s h =
