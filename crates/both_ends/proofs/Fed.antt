@@ -25,7 +25,7 @@ use Rattle.client_core.specs.Clients.{Client, while_going, slow_end, listens, ta
 use Rattle.client_core.specs.Happenings.{Happening, Got, Moment, Took, Ended, end_of_wait, tells, step, run}
 use Rattle.client_core.proofs.Clients.{hear_is, over, left_of}
 use Rattle.both_ends.specs.Feeding.{piece_of, fed_by, is_bad_peer, blames}
-use Rattle.both_ends.specs.Understanding.{messages_in}
+use Rattle.both_ends.specs.Understanding.{messages_read}
 use Rattle.both_ends.proofs.ByteBodies.{bytes-before}
 use Rattle.both_ends.proofs.Cutting.{fine-box, more-messages}
 
@@ -131,8 +131,8 @@ hears-all c (m ∷ ms) = by c.done refl (stop_in c.talk m) refl (hears-all (list
 pub record IsFed (c : Client) (bytes : List ℕ) : Type 0 where
   pub role : c.role ≡ role.Client
   pub fine : is_bad_peer c.done ≡ false
-  pub heard : IsFront c.heard (messages_in bytes)
-  pub going : c.done ≡ None → (c.received ≡ bytes) × (c.heard ≡ messages_in bytes)
+  pub heard : IsFront c.heard (messages_read bytes)
+  pub going : c.done ≡ None → (c.received ≡ bytes) × (c.heard ≡ messages_read bytes)
 
 -- nothing bad, so it is left as it is
 unjudged : (done : Option ClientEnd) (d : Client) → while_going done (fails None) d ≡ d
@@ -152,7 +152,7 @@ got-is piece c tail none all good =
 got-fed : (ms : List Msg) (more bytes piece : List ℕ) (c : Client) → AllGood client [] ms → frames_of ms ≡ (bytes ++ piece) ++ more → AreBytes (bytes ++ piece) → AreBytes bytes → IsFed c bytes → IsFed (got piece c) (bytes ++ piece)
 got-fed ms more bytes piece c good is all-small small h = by c.done refl
   where
-    grown : (tail : List Msg) × (messages_in (bytes ++ piece) ≡ messages_in bytes ++ tail)
+    grown : (tail : List Msg) × (messages_read (bytes ++ piece) ≡ messages_read bytes ++ tail)
     grown = more-messages client ms bytes piece (piece ++ more) good (is ∙ append_assoc bytes piece more) all-small small
 
     by : (done : Option ClientEnd) → c.done ≡ done → IsFed (got piece c) (bytes ++ piece)
@@ -168,11 +168,11 @@ got-fed ms more bytes piece c good is all-small small h = by c.done refl
         let was = h.going d in
         let box_is : inbox_with piece c ≡ inbox client (bytes ++ piece) = ap (λ (r : Role). inbox (reader_of r) (c.received ++ piece)) h.role ∙ ap (λ (t : List ℕ). inbox client (t ++ piece)) was.0 in
         let none : (inbox_with piece c).bad ≡ None = ap (λ (b : Inbox). b.bad) box_is ∙ (fine-box client ms (bytes ++ piece) more good is all-small).none in
-        let all : messages_in (bytes ++ piece) ≡ c.heard ++ grown.0 = grown.1 ∙ ap (λ (t : List Msg). t ++ grown.0) (sym was.1) in
+        let all : messages_read (bytes ++ piece) ≡ c.heard ++ grown.0 = grown.1 ∙ ap (λ (t : List Msg). t ++ grown.0) (sym was.1) in
         let there = hears-all (fed piece c) grown.0 in
         let e : got piece c ≡ hear_all (fed piece c) grown.0 = got-is piece c grown.0 d (ap (λ (b : Inbox). b.messages) box_is ∙ all) none in
-        let split : messages_in (bytes ++ piece) ≡ (c.heard ++ there.front) ++ there.left = all ∙ ap (λ (t : List Msg). c.heard ++ t) there.all ∙ sym (append_assoc c.heard there.front there.left) in
-        let whole : messages_in (bytes ++ piece) ≡ (hear_all (fed piece c) grown.0).heard ++ there.left = split ∙ ap (λ (t : List Msg). t ++ there.left) (sym there.heard) in
+        let split : messages_read (bytes ++ piece) ≡ (c.heard ++ there.front) ++ there.left = all ∙ ap (λ (t : List Msg). c.heard ++ t) there.all ∙ sym (append_assoc c.heard there.front there.left) in
+        let whole : messages_read (bytes ++ piece) ≡ (hear_all (fed piece c) grown.0).heard ++ there.left = split ∙ ap (λ (t : List Msg). t ++ there.left) (sym there.heard) in
         subst (λ (x : Client). IsFed x (bytes ++ piece)) (sym e) (record {
           role = there.role ∙ h.role;
           fine = there.fine h.fine;

@@ -118,8 +118,8 @@ both-ends o before latest s serial by sound types bytes happenings rest is blame
     let c : Client = run first happenings in
     let fed : IsFed c (fed_by happenings) = run-fed queued rest [] first happenings good is small blameless (record { role = refl; fine = refl; heard = ([], refl); going = λ goes. (refl, refl) }) in
     let box = fine-box roles.client queued (fed_by happenings) rest good is small in
-    let of_queue : IsFront (understanding.messages_in (fed_by happenings)) queued = (box.left, box.all) in
-    let all_front : IsFront c.heard queued = fronts c.heard (understanding.messages_in (fed_by happenings)) queued fed.heard of_queue in
+    let of_queue : IsFront (understanding.messages_read (fed_by happenings)) queued = (box.left, box.all) in
+    let all_front : IsFront c.heard queued = fronts c.heard (understanding.messages_read (fed_by happenings)) queued fed.heard of_queue in
     let more = wholes-front CLIP_LIMIT c.heard all_front.0 in
     let told_wholes = told-joining name width height script now happenings in
     record {

@@ -22,8 +22,8 @@ use Rattle.both_ends.specs.Numbers.{HasTypes, BringsBytes}
 use Rattle.both_ends.specs.Inputs.{inputs, mapped_screen}
 
 -- the messages of a server's stream, as a client reads it
-abbrev pub messages_in : List ℕ → List Msg
-messages_in bytes = (inbox client bytes).messages
+abbrev pub messages_read : List ℕ → List Msg
+messages_read bytes = (inbox client bytes).messages
 
 -- a client that was fed these bytes of a queue of those messages
 pub record Understands (queued : List Msg) (fed : List ℕ) (c : Client) : Type 0 where
@@ -31,12 +31,13 @@ pub record Understands (queued : List Msg) (fed : List ℕ) (c : Client) : Type 
   pub good : (inbox client fed).bad ≡ None
   pub fine : is_bad_peer c.done ≡ false
   -- it heard messages that were queued: all that came as long as it goes on, else the first of them
-  pub of_queue : IsFront (messages_in fed) queued
-  pub heard : IsFront c.heard (messages_in fed)
-  pub all : c.done ≡ None → c.heard ≡ messages_in fed
+  pub of_queue : IsFront (messages_read fed) queued
+  pub heard : IsFront c.heard (messages_read fed)
+  pub all : c.done ≡ None → c.heard ≡ messages_read fed
   -- its keys and buttons are those of a screen that gets these messages, options and all
   pub keys : inputs (lines c) ≡ inputs (mapped_screen c.heard).lines
-  -- its clipboards are the whole ones among them, and so the first of those that were queued
+  -- its clipboards are the whole ones among them, of at most 4,194,304 bytes each, and so the first
+  -- of those that were queued
   pub wholes : TellsWholes c
   pub first_wholes :
       (more : List Line)
