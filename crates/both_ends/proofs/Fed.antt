@@ -10,8 +10,7 @@ use Rattle.message_codec.specs.declared.messages.Msg.{Msg}
 use Rattle.message_codec.specs.Streams.{AreBytes, frames_of, AllGood}
 use Rattle.message_codec.specs.Inboxes.{Inbox, inbox}
 use Rattle.message_reader.specs.declared.role.Role.{Role}
-use Rattle.message_reader.specs.declared.role.Role.TheVariants as role
-use Rattle.message_reader.specs.Roles.{client, reader_of}
+use Rattle.message_reader.specs.Roles.{reader_of}
 use Rattle.message_reader.specs.Endings.{IsFront}
 use Rattle.client_talk.specs.Talks.{Talk, is_dead, is_slow, told}
 use Rattle.client_talk.specs.Scripts.{run_script}
@@ -128,11 +127,11 @@ hears-all c (m ∷ ms) = by c.done refl (stop_in c.talk m) refl (hears-all (list
 
 -- ---- a client that was fed these bytes
 
-pub record IsFed (c : Client) (bytes : List ℕ) : Type 0 where
-  pub role : c.role ≡ role.Client
+pub record IsFed (r : Role) (c : Client) (bytes : List ℕ) : Type 0 where
+  pub role : c.role ≡ r
   pub fine : is_bad_peer c.done ≡ false
-  pub heard : IsFront c.heard (messages_read bytes)
-  pub going : c.done ≡ None → (c.received ≡ bytes) × (c.heard ≡ messages_read bytes)
+  pub heard : IsFront c.heard (messages_read r bytes)
+  pub going : c.done ≡ None → (c.received ≡ bytes) × (c.heard ≡ messages_read r bytes)
 
 -- nothing bad, so it is left as it is
 unjudged : (done : Option ClientEnd) (d : Client) → while_going done (fails None) d ≡ d
@@ -149,16 +148,16 @@ got-is piece c tail none all good =
     ∙ ap (λ (o : Option Reason). while_going d.done (fails (option_map (λ (why : Reason). record { place = box.place; reason = why }) o)) d) good
     ∙ unjudged d.done d
 
-got-fed : (ms : List Msg) (more bytes piece : List ℕ) (c : Client) → AllGood client [] ms → frames_of ms ≡ (bytes ++ piece) ++ more → AreBytes (bytes ++ piece) → AreBytes bytes → IsFed c bytes → IsFed (got piece c) (bytes ++ piece)
-got-fed ms more bytes piece c good is all-small small h = by c.done refl
+got-fed : (r : Role) (ms : List Msg) (more bytes piece : List ℕ) (c : Client) → AllGood (reader_of r) [] ms → frames_of ms ≡ (bytes ++ piece) ++ more → AreBytes (bytes ++ piece) → AreBytes bytes → IsFed r c bytes → IsFed r (got piece c) (bytes ++ piece)
+got-fed r ms more bytes piece c good is all-small small h = by c.done refl
   where
-    grown : (tail : List Msg) × (messages_read (bytes ++ piece) ≡ messages_read bytes ++ tail)
-    grown = more-messages client ms bytes piece (piece ++ more) good (is ∙ append_assoc bytes piece more) all-small small
+    grown : (tail : List Msg) × (messages_read r (bytes ++ piece) ≡ messages_read r bytes ++ tail)
+    grown = more-messages (reader_of r) ms bytes piece (piece ++ more) good (is ∙ append_assoc bytes piece more) all-small small
 
-    by : (done : Option ClientEnd) → c.done ≡ done → IsFed (got piece c) (bytes ++ piece)
+    by : (done : Option ClientEnd) → c.done ≡ done → IsFed r (got piece c) (bytes ++ piece)
     by (Some e) d =
         let same : got piece c ≡ c = ap (λ (done : Option ClientEnd). while_going done (λ (x : Client). reads (inbox_with piece x) (fed piece x)) c) d in
-        subst (λ (x : Client). IsFed x (bytes ++ piece)) (sym same) (record {
+        subst (λ (x : Client). IsFed r x (bytes ++ piece)) (sym same) (record {
           role = h.role;
           fine = h.fine;
           heard = (h.heard.0 ++ grown.0, grown.1 ∙ ap (λ (t : List Msg). t ++ grown.0) h.heard.1 ∙ append_assoc c.heard h.heard.0 grown.0);
@@ -166,14 +165,14 @@ got-fed ms more bytes piece c good is all-small small h = by c.done refl
         })
     by None d =
         let was = h.going d in
-        let box_is : inbox_with piece c ≡ inbox client (bytes ++ piece) = ap (λ (r : Role). inbox (reader_of r) (c.received ++ piece)) h.role ∙ ap (λ (t : List ℕ). inbox client (t ++ piece)) was.0 in
-        let none : (inbox_with piece c).bad ≡ None = ap (λ (b : Inbox). b.bad) box_is ∙ (fine-box client ms (bytes ++ piece) more good is all-small).none in
-        let all : messages_read (bytes ++ piece) ≡ c.heard ++ grown.0 = grown.1 ∙ ap (λ (t : List Msg). t ++ grown.0) (sym was.1) in
+        let box_is : inbox_with piece c ≡ inbox (reader_of r) (bytes ++ piece) = ap (λ (x : Role). inbox (reader_of x) (c.received ++ piece)) h.role ∙ ap (λ (t : List ℕ). inbox (reader_of r) (t ++ piece)) was.0 in
+        let none : (inbox_with piece c).bad ≡ None = ap (λ (b : Inbox). b.bad) box_is ∙ (fine-box (reader_of r) ms (bytes ++ piece) more good is all-small).none in
+        let all : messages_read r (bytes ++ piece) ≡ c.heard ++ grown.0 = grown.1 ∙ ap (λ (t : List Msg). t ++ grown.0) (sym was.1) in
         let there = hears-all (fed piece c) grown.0 in
         let e : got piece c ≡ hear_all (fed piece c) grown.0 = got-is piece c grown.0 d (ap (λ (b : Inbox). b.messages) box_is ∙ all) none in
-        let split : messages_read (bytes ++ piece) ≡ (c.heard ++ there.front) ++ there.left = all ∙ ap (λ (t : List Msg). c.heard ++ t) there.all ∙ sym (append_assoc c.heard there.front there.left) in
-        let whole : messages_read (bytes ++ piece) ≡ (hear_all (fed piece c) grown.0).heard ++ there.left = split ∙ ap (λ (t : List Msg). t ++ there.left) (sym there.heard) in
-        subst (λ (x : Client). IsFed x (bytes ++ piece)) (sym e) (record {
+        let split : messages_read r (bytes ++ piece) ≡ (c.heard ++ there.front) ++ there.left = all ∙ ap (λ (t : List Msg). c.heard ++ t) there.all ∙ sym (append_assoc c.heard there.front there.left) in
+        let whole : messages_read r (bytes ++ piece) ≡ (hear_all (fed piece c) grown.0).heard ++ there.left = split ∙ ap (λ (t : List Msg). t ++ there.left) (sym there.heard) in
+        subst (λ (x : Client). IsFed r x (bytes ++ piece)) (sym e) (record {
           role = there.role ∙ h.role;
           fine = there.fine h.fine;
           heard = (there.left, whole);
@@ -182,29 +181,29 @@ got-fed ms more bytes piece c good is all-small small h = by c.done refl
 
 -- ---- moments, takings and ends
 
-tells-fed : (bytes : List ℕ) (talk : Option Talk) (moment : ℕ) (c : Client) → c.done ≡ None → IsFed c bytes → IsFed (tells talk moment c) bytes
-tells-fed bytes None moment c none h = h
-tells-fed bytes (Some t) moment c none h = record { role = h.role; fine = wait-fine (told moment t); heard = h.heard; going = λ goes. h.going none }
+tells-fed : (r : Role) (bytes : List ℕ) (talk : Option Talk) (moment : ℕ) (c : Client) → c.done ≡ None → IsFed r c bytes → IsFed r (tells talk moment c) bytes
+tells-fed r bytes None moment c none h = h
+tells-fed r bytes (Some t) moment c none h = record { role = h.role; fine = wait-fine (told moment t); heard = h.heard; going = λ goes. h.going none }
 
-passes-fed : (bytes : List ℕ) (done : Option ClientEnd) (moment : ℕ) (c : Client) → c.done ≡ done → IsFed c bytes → IsFed (while_going done (tells c.talk moment) c) bytes
-passes-fed bytes (Some e) moment c is h = h
-passes-fed bytes None moment c is h = tells-fed bytes c.talk moment c is h
+passes-fed : (r : Role) (bytes : List ℕ) (done : Option ClientEnd) (moment : ℕ) (c : Client) → c.done ≡ done → IsFed r c bytes → IsFed r (while_going done (tells c.talk moment) c) bytes
+passes-fed r bytes (Some e) moment c is h = h
+passes-fed r bytes None moment c is h = tells-fed r bytes c.talk moment c is h
 
 -- a happening that brings no bytes
-quiet-fed : (bytes : List ℕ) (c : Client) → IsFed c bytes → IsFed c (bytes ++ [])
-quiet-fed bytes c h = subst (IsFed c) (sym (append-nil bytes)) h
+quiet-fed : (r : Role) (bytes : List ℕ) (c : Client) → IsFed r c bytes → IsFed r c (bytes ++ [])
+quiet-fed r bytes c h = subst (IsFed r c) (sym (append-nil bytes)) h
 
-step-fed : (ms : List Msg) (more bytes : List ℕ) (c : Client) (x : Happening) → AllGood client [] ms → frames_of ms ≡ (bytes ++ piece_of x) ++ more → AreBytes (bytes ++ piece_of x) → AreBytes bytes → blames x ≡ false → IsFed c bytes → IsFed (step c x) (bytes ++ piece_of x)
-step-fed ms more bytes c (Got piece) good is all-small small b h = got-fed ms more bytes piece c good is all-small small h
-step-fed ms more bytes c (Moment moment) good is all-small small b h = quiet-fed bytes (step c (Moment moment)) (passes-fed bytes c.done moment c refl h)
-step-fed ms more bytes c (Took count) good is all-small small b h = quiet-fed bytes (step c (Took count)) (record { role = h.role; fine = h.fine; heard = h.heard; going = h.going })
-step-fed ms more bytes c (Ended why) good is all-small small b h = quiet-fed bytes (step c (Ended why)) (record { role = h.role; fine = ended-fine c.done why h.fine b; heard = h.heard; going = λ goes. absurd (no_end (unwrap_or c.done why) goes) })
+step-fed : (r : Role) (ms : List Msg) (more bytes : List ℕ) (c : Client) (x : Happening) → AllGood (reader_of r) [] ms → frames_of ms ≡ (bytes ++ piece_of x) ++ more → AreBytes (bytes ++ piece_of x) → AreBytes bytes → blames x ≡ false → IsFed r c bytes → IsFed r (step c x) (bytes ++ piece_of x)
+step-fed r ms more bytes c (Got piece) good is all-small small b h = got-fed r ms more bytes piece c good is all-small small h
+step-fed r ms more bytes c (Moment moment) good is all-small small b h = quiet-fed r bytes (step c (Moment moment)) (passes-fed r bytes c.done moment c refl h)
+step-fed r ms more bytes c (Took count) good is all-small small b h = quiet-fed r bytes (step c (Took count)) (record { role = h.role; fine = h.fine; heard = h.heard; going = h.going })
+step-fed r ms more bytes c (Ended why) good is all-small small b h = quiet-fed r bytes (step c (Ended why)) (record { role = h.role; fine = ended-fine c.done why h.fine b; heard = h.heard; going = λ goes. absurd (no_end (unwrap_or c.done why) goes) })
 
 -- ---- all happenings
 
-pub run-fed : (ms : List Msg) (more bytes : List ℕ) (c : Client) (xs : List Happening) → AllGood client [] ms → frames_of ms ≡ (bytes ++ fed_by xs) ++ more → AreBytes (bytes ++ fed_by xs) → list_any blames xs ≡ false → IsFed c bytes → IsFed (run c xs) (bytes ++ fed_by xs)
-run-fed ms more bytes c [] good is small b h = quiet-fed bytes c h
-run-fed ms more bytes c (x ∷ xs) good is small b h =
+pub run-fed : (r : Role) (ms : List Msg) (more bytes : List ℕ) (c : Client) (xs : List Happening) → AllGood (reader_of r) [] ms → frames_of ms ≡ (bytes ++ fed_by xs) ++ more → AreBytes (bytes ++ fed_by xs) → list_any blames xs ≡ false → IsFed r c bytes → IsFed r (run c xs) (bytes ++ fed_by xs)
+run-fed r ms more bytes c [] good is small b h = quiet-fed r bytes c h
+run-fed r ms more bytes c (x ∷ xs) good is small b h =
     let piece : List ℕ = piece_of x in
     let rest : List ℕ = fed_by xs in
     let order : bytes ++ (piece ++ rest) ≡ (bytes ++ piece) ++ rest = sym (append_assoc bytes piece rest) in
@@ -212,5 +211,5 @@ run-fed ms more bytes c (x ∷ xs) good is small b h =
     let all-small : AreBytes ((bytes ++ piece) ++ rest) = subst AreBytes order small in
     let here-small : AreBytes (bytes ++ piece) = bytes-before (bytes ++ piece) rest all-small in
     let now : frames_of ms ≡ (bytes ++ piece) ++ (rest ++ more) = is ∙ ap (λ (t : List ℕ). t ++ more) order ∙ append_assoc (bytes ++ piece) rest more in
-    let next : IsFed (step c x) (bytes ++ piece) = step-fed ms (rest ++ more) bytes c x good now here-small (bytes-before bytes piece here-small) parts.0 h in
-    subst (IsFed (run (step c x) xs)) (sym order) (run-fed ms more (bytes ++ piece) (step c x) xs good (is ∙ ap (λ (t : List ℕ). t ++ more) order) all-small parts.1 next)
+    let next : IsFed r (step c x) (bytes ++ piece) = step-fed r ms (rest ++ more) bytes c x good now here-small (bytes-before bytes piece here-small) parts.0 h in
+    subst (IsFed r (run (step c x) xs)) (sym order) (run-fed r ms more (bytes ++ piece) (step c x) xs good (is ∙ ap (λ (t : List ℕ). t ++ more) order) all-small parts.1 next)

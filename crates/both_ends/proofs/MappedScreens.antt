@@ -27,7 +27,7 @@ use Rattle.client_core.specs.Ends.{stop_in}
 use Rattle.client_core.specs.Clipboards.{whole_line, part_lines}
 use Rattle.client_core.specs.Hearing.{Display, option_lines, set_all, heard, fresh, heard_all, display}
 use Rattle.client_core.specs.Clients.{Client, while_going, shown_of, listens, takes, hear, hear_all, fed, inbox_with, bad_in, fails, reads}
-use Rattle.client_core.specs.Happenings.{Happening, Got, Moment, Took, Ended, joining, lines, tells, step, run}
+use Rattle.client_core.specs.Happenings.{Happening, Got, Moment, Took, Ended, injecting, joining, lines, tells, step, run}
 use Rattle.both_ends.specs.Inputs.{is_input, inputs, sets_option, calls_of, calls, mapped_screen}
 use Rattle.both_ends.proofs.InputLines.{same-applied}
 
@@ -162,3 +162,6 @@ HasKeys c = inputs (lines c) ≡ inputs (mapped_screen c.heard).lines
 
 pub joining-keys : (name : List ℕ) (w h : ℕ) (script : List ClientLine) (now : ℕ) (happenings : List Happening) → HasKeys (run (joining name w h script now) happenings)
 joining-keys name w h script now happenings = (run-mapped (joining name w h script now) happenings (record { mods = refl; lines = refl })).lines
+
+pub injecting-keys : (happenings : List Happening) → HasKeys (run injecting happenings)
+injecting-keys happenings = (run-mapped injecting happenings (record { mods = refl; lines = refl })).lines

@@ -9,9 +9,9 @@ use Rattle.message_codec.specs.declared.messages.Msg.{Msg}
 use Rattle.message_codec.specs.Table.{Sender, server, client, both, row, code_of, Sends}
 use Rattle.message_codec.specs.BodyVerdicts.{sends}
 use Rattle.message_codec.specs.Spelling.{body_of, Spells}
-use Rattle.message_codec.specs.Streams.{AreBytes, AllGood}
+use Rattle.message_codec.specs.Streams.{AreBytes, plain, AllGood}
 use Rattle.message_reader.specs.Roles as roles
-use Rattle.message_reader.specs.Roles.{is_hello}
+use Rattle.message_reader.specs.Roles.{is_hello, reader_of}
 use Rattle.message_reader.specs.Endings.{IsFront}
 use Rattle.clip_chunks.specs.Parts.{part_of, parts_among}
 use Rattle.clip_chunks.specs.OpenRuns.{Whole, wholes_among, brought}
@@ -20,8 +20,8 @@ use Rattle.held_inputs.specs.declared.line.Line.{Line}
 use Rattle.client_core.specs.declared.clipboards.TheConstants.{CLIP_LIMIT}
 use Rattle.client_core.specs.Clipboards.{whole_line}
 use Rattle.client_core.specs.Clients.{Client}
-use Rattle.client_core.specs.Happenings.{joining, run}
-use Rattle.client_core.proofs.ToldWholes.{told-joining}
+use Rattle.client_core.specs.Happenings.{Happening, injecting, joining, run, TellsWholes}
+use Rattle.client_core.proofs.ToldWholes.{told-injecting, told-joining}
 use Rattle.machine.specs.Targets.{Entry}
 use Rattle.machine.specs.Targets as target
 use Rattle.machine.specs.Queues.{entries_for, messages_in, messages_for, size, fits, fitting, queued_messages}
@@ -29,11 +29,10 @@ use Rattle.std.specs.Prelude.{reverse}
 use Rattle.both_ends.specs.Greetings.{greeting, may_follow, IsGreetedFirst}
 use Rattle.both_ends.specs.Feeding.{fed_by}
 use Rattle.both_ends.specs.Writing.{IsWritable}
-use Rattle.both_ends.specs.Understanding.{BothEnds}
-use Rattle.both_ends.specs.Understanding as understanding
+use Rattle.both_ends.specs.Understanding.{messages_read, IsUnderstoodBy, JoiningUnderstands}
 use Rattle.both_ends.proofs.ByteBodies.{bytes-before, frames-bytes}
-use Rattle.both_ends.proofs.Cutting.{fine-box}
-use Rattle.both_ends.proofs.MappedScreens.{joining-keys}
+use Rattle.both_ends.proofs.Cutting.{IsFineBox, fine-box}
+use Rattle.both_ends.proofs.MappedScreens.{HasKeys, injecting-keys, joining-keys}
 use Rattle.both_ends.proofs.Fed.{IsFed, run-fed}
 use Rattle.both_ends.proofs.GreetedFirst.{greeted-first}
 use Rattle.both_ends.proofs.Writable.{all-writable}
@@ -87,9 +86,21 @@ first-taken m is = ap (λ (x : Msg). is_hello x || roles.is_refusal x) is
 first-sent : (m : Msg) → m ≡ greeting → sends (row (code_of m)).sender ends.Server ≡ true
 first-sent m is = ap (λ (x : Msg). sends (row (code_of x)).sender ends.Server) is
 
-all-good : (ms : List Msg) → IsGreetedFirst ms → AllByRecursion IsWritable ms → AllGood roles.client [] ms
-all-good [] g w = tt
-all-good (m ∷ ms) g w = (record { spelled = spells m (first-sent m g.0) w.0; within = w.0.within; taken = first-taken m g.0 }, later-good m [] ms g.1 w.1)
+joining-good : (ms : List Msg) → IsGreetedFirst ms → AllByRecursion IsWritable ms → AllGood roles.client [] ms
+joining-good [] g w = tt
+joining-good (m ∷ ms) g w = (record { spelled = spells m (first-sent m g.0) w.0; within = w.0.within; taken = first-taken m g.0 }, later-good m [] ms g.1 w.1)
+
+-- one that reads the messages of a server wherever they stand
+anywhere-good : (before ms : List Msg) → list_all may_follow ms ≡ true → AllByRecursion IsWritable ms → AllGood (plain ends.Server) before ms
+anywhere-good before [] f w = tt
+anywhere-good before (m ∷ ms) f w =
+    let both-parts = and_parts (may_follow m) (list_all may_follow ms) f in
+    let parts = and_parts (sends (row (code_of m)).sender ends.Server) (not (is_hello m)) both-parts.0 in
+    (record { spelled = spells m parts.0 w.0; within = w.0.within; taken = refl }, anywhere-good (before ++ m ∷ []) ms both-parts.1 w.1)
+
+injecting-good : (ms : List Msg) → IsGreetedFirst ms → AllByRecursion IsWritable ms → AllGood (plain ends.Server) [] ms
+injecting-good [] g w = tt
+injecting-good (m ∷ ms) g w = (record { spelled = spells m (first-sent m g.0) w.0; within = w.0.within; taken = refl }, anywhere-good (m ∷ []) ms g.1 w.1)
 
 -- ---- wholes among the first messages
 
@@ -105,30 +116,51 @@ wholes-front limit xs (y ∷ ys) =
 fronts : (a b c : List Msg) → IsFront a b → IsFront b c → IsFront a c
 fronts a b c h k = (h.0 ++ k.0, k.1 ∙ ap (λ (t : List Msg). t ++ k.0) h.1 ∙ append_assoc a h.0 k.0)
 
-pub both-ends : BothEnds
-both-ends o before latest s serial by sound types bytes happenings rest is blameless name width height script now =
+-- what a client of either kind is before the first piece, and what holds whatever happens to it
+record IsReady (first : Client) : Type 0 where
+  good : (ms : List Msg) → IsGreetedFirst ms → AllByRecursion IsWritable ms → AllGood (reader_of first.role) [] ms
+  fed : IsFed first.role first []
+  keys : (happenings : List Happening) → HasKeys (run first happenings)
+  wholes : (happenings : List Happening) → TellsWholes (run first happenings)
+
+understood : (first : Client) → IsReady first → IsUnderstoodBy first
+understood first ready o before latest s serial by sound types bytes happenings rest is blameless =
     let told : List Msg = messages_for (target.Client serial) s.routed in
     let queued : List Msg = queued_messages s.routed serial in
     let front : IsFront queued told = queued-front s.routed serial in
     let greeted : IsGreetedFirst queued = greeted-front queued front.0 (subst IsGreetedFirst front.1 (greeted-first o latest s serial (record { happenings = before; by = by }))) in
     let writable : AllByRecursion IsWritable queued = all-first IsWritable queued front.0 (subst (AllByRecursion IsWritable) front.1 (all-writable o before latest s by sound types bytes (target.Client serial))) in
     let small : AreBytes (fed_by happenings) = bytes-before (fed_by happenings) rest (subst AreBytes is (frames-bytes queued writable)) in
-    let good : AllGood roles.client [] queued = all-good queued greeted writable in
-    let first : Client = joining name width height script now in
+    let good : AllGood (reader_of first.role) [] queued = ready.good queued greeted writable in
     let c : Client = run first happenings in
-    let fed : IsFed c (fed_by happenings) = run-fed queued rest [] first happenings good is small blameless (record { role = refl; fine = refl; heard = ([], refl); going = λ goes. (refl, refl) }) in
-    let box = fine-box roles.client queued (fed_by happenings) rest good is small in
-    let of_queue : IsFront (understanding.messages_read (fed_by happenings)) queued = (box.left, box.all) in
-    let all_front : IsFront c.heard queued = fronts c.heard (understanding.messages_read (fed_by happenings)) queued fed.heard of_queue in
+    let fed : IsFed first.role c (fed_by happenings) = run-fed first.role queued rest [] first happenings good is small blameless ready.fed in
+    let box : IsFineBox (reader_of first.role) queued (fed_by happenings) = fine-box (reader_of first.role) queued (fed_by happenings) rest good is small in
+    let of_queue : IsFront (messages_read first.role (fed_by happenings)) queued = (box.left, box.all) in
+    let all_front : IsFront c.heard queued = fronts c.heard (messages_read first.role (fed_by happenings)) queued fed.heard of_queue in
     let more = wholes-front CLIP_LIMIT c.heard all_front.0 in
-    let told_wholes = told-joining name width height script now happenings in
     record {
       good = box.none;
       fine = fed.fine;
       of_queue = of_queue;
       heard = fed.heard;
       all = λ goes. (fed.going goes).1;
-      keys = joining-keys name width height script now happenings;
-      wholes = told_wholes;
-      first_wholes = (map whole_line more.0, ap (λ (ms : List Msg). map whole_line (wholes_among CLIP_LIMIT ms)) all_front.1 ∙ ap (map whole_line) more.1 ∙ map-append whole_line (wholes_among CLIP_LIMIT c.heard) more.0 ∙ ap (λ (t : List Line). t ++ map whole_line more.0) (sym told_wholes));
+      keys = ready.keys happenings;
+      wholes = ready.wholes happenings;
+      first_wholes = (map whole_line more.0, ap (λ (ms : List Msg). map whole_line (wholes_among CLIP_LIMIT ms)) all_front.1 ∙ ap (map whole_line) more.1 ∙ map-append whole_line (wholes_among CLIP_LIMIT c.heard) more.0 ∙ ap (λ (t : List Line). t ++ map whole_line more.0) (sym (ready.wholes happenings)));
     }
+
+pub joining-understands : JoiningUnderstands
+joining-understands name w h script now = understood (joining name w h script now) (record {
+  good = joining-good;
+  fed = record { role = refl; fine = refl; heard = ([], refl); going = λ goes. (refl, refl) };
+  keys = joining-keys name w h script now;
+  wholes = told-joining name w h script now;
+})
+
+pub injecting-understands : IsUnderstoodBy injecting
+injecting-understands = understood injecting (record {
+  good = injecting-good;
+  fed = record { role = refl; fine = refl; heard = ([], refl); going = λ goes. (refl, refl) };
+  keys = injecting-keys;
+  wholes = told-injecting;
+})

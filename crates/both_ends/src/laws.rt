@@ -3,7 +3,8 @@
 
 ghost use Rattle.both_ends.specs.Greetings.{GreetedFirst};
 ghost use Rattle.both_ends.specs.Numbers.{AllIsWritable};
-ghost use Rattle.both_ends.specs.Understanding.{BothEnds};
+ghost use Rattle.client_core.specs.Happenings.{injecting};
+ghost use Rattle.both_ends.specs.Understanding.{IsUnderstoodBy, JoiningUnderstands};
 
 /// Whatever a connection is told begins with the greeting of version 1.6, and no greeting and
 /// nothing that only a client sends comes later.
@@ -18,10 +19,11 @@ pub fn all_is_writable()
     ensures { AllIsWritable }
 {}
 
-/// A client that is fed any front of a connection's queue, in any pieces, at any moments and
+/// A client that joins and is fed any front of a connection's queue, in any pieces, at any moments and
 /// takings, never ends as if the server had sent what it may not send. It hears messages that were
 /// queued, prints their keys and buttons under the map that the options have made by each of them,
-/// and tells the whole clipboards among them, in their order.
+/// and tells the whole clipboards among them, in their order. The same of a client that injects.
 pub fn both_ends()
-    ensures { BothEnds }
+    ensures joining { JoiningUnderstands }
+    ensures injecting { IsUnderstoodBy injecting }
 {}
