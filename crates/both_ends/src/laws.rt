@@ -13,8 +13,8 @@ pub fn greeted_first()
 {}
 
 /// Under a configuration that was read, with a script whose numbers are those of its types and
-/// pieces of bytes, all that is told can be written: its numbers fit their fields, and its body has
-/// at most 4,194,304 bytes.
+/// pieces of bytes, all that is told can be written: its numbers fit their fields, its texts are
+/// bytes, and its body has at most 4,194,304 bytes.
 pub fn all_is_writable()
     ensures { AllIsWritable }
 {}

@@ -1,7 +1,10 @@
-//! What one end says, as the other end hears it.
+//! What a client makes of what a server queued for it.
 //!
-//! It owns what a client can be told first and later (`specs/Greetings.antt`), and laws on a client
-//! that is fed what a server queued. It has no program code.
+//! It owns what a server tells first and later (`specs/Greetings.antt`), which messages can be
+//! written (`specs/Writing.antt`, `specs/Numbers.antt`), a client that is fed a queue
+//! (`specs/Feeding.antt`, `specs/Inputs.antt`), and the law of both ends
+//! (`specs/Understanding.antt`). It knows the server's machine and a client by their definitions. It
+//! has no program code.
 #![tactic(auto)]
 
 mod laws;
