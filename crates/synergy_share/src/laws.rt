@@ -15,6 +15,8 @@ ghost use Rattle.synergy_share.specs.Endings.{printed_of};
 ghost use Rattle.synergy_share.specs.Commands.{VerdictOn, EndsAt, IsDecided};
 ghost use Rattle.synergy_share.specs.Checking.{Checks, bad_config, config_limit, too_big};
 
+pub use both_ends::both_ends;
+
 /// The same bytes have one end, unless it is a fault or out of memory. So where none of these
 /// comes, a command answers the one status that the bytes read decide, and prints the one list of
 /// messages.

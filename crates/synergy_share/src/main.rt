@@ -26,7 +26,7 @@ mod top;
 pub use checking::run_check;
 pub use command_words::{Command, form};
 pub use commands::{run_inject, run_show};
-pub use laws::{file_decides, one_end, refusals_name_lines};
+pub use laws::{both_ends, file_decides, one_end, refusals_name_lines};
 pub use line_core::LineCore;
 pub use real::{StdFiles, StdSink, StdSource};
 pub use replaying::run_replay;

@@ -1,0 +1,24 @@
+pub mod AllOfLists
+pub mod Greeted
+pub mod Telling
+pub mod TellingClipboards
+pub mod TellingPartings
+pub mod TellingEvents
+pub mod TellingScripts
+pub mod TellingHearing
+pub mod TellingSteps
+pub mod Following
+pub mod GreetedFirst
+pub mod ByteBodies
+pub mod SmallNumbers
+pub mod SmallMessages
+pub mod SmallOptions
+pub mod InRange
+pub mod WholeBytes
+pub mod Writable
+pub mod Cutting
+pub mod InputLines
+pub mod MappedScreens
+pub mod Fed
+pub mod Understood
+mod Rows
