@@ -8,3 +8,4 @@ pub mod TurnSteps
 pub mod Leaves
 pub mod Starts
 pub mod JoinedClients
+pub mod Joinings

@@ -4,3 +4,4 @@ pub mod Ends
 pub mod Turns
 pub mod Leaving
 pub mod Attending
+pub mod Joining

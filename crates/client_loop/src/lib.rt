@@ -10,6 +10,7 @@
 mod attendant;
 mod attending;
 mod joined_client;
+mod joining;
 mod leaving;
 mod reading;
 mod turns;
@@ -19,3 +20,4 @@ mod writing;
 
 pub use attendant::Attendant;
 pub use attending::attend;
+pub use joining::join;
