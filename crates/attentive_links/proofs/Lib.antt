@@ -1,0 +1,3 @@
+pub mod ClientSteps
+pub mod Clients
+pub mod ActByAct

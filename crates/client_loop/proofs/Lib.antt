@@ -1,0 +1,11 @@
+pub mod MoreActs
+pub mod Halts
+pub mod TellSteps
+pub mod ReadSteps
+pub mod WriteSteps
+pub mod WaitSteps
+pub mod TurnSteps
+pub mod Leaves
+pub mod Starts
+pub mod JoinedClients
+pub mod Joinings
