@@ -7,3 +7,4 @@ pub mod Checked
 pub mod TextLines
 pub mod ReplayWords
 pub mod Adapters
+pub mod Generated
