@@ -25,3 +25,4 @@ pub mod Accepting
 pub mod Joining
 pub mod Hearing
 pub mod Departing
+pub mod LastReadings

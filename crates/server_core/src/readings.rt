@@ -5,6 +5,7 @@ ghost use Rattle.std.specs.Prelude.{◌≡◌, ◌<◌, fold, min};
 ghost use Rattle.std.specs.Option.{option_to_list};
 ghost use Rattle.machine.specs.Readings as readings;
 ghost use Rattle.server_core.specs.Leading.{Reads};
+ghost use Rattle.server_core.specs.LastReadings.{ReadsAtEnd};
 ghost use Rattle.server_core.specs.DueMoments.{connections_due};
 
 use crate::server::ServerCore;
@@ -33,9 +34,10 @@ impl ServerCore {
     }
 
     /// Returns the sequence number of the latest entering: how many there were, at most
-    /// 4,294,967,295.
+    /// 4,294,967,295; also at a run's end, when the active screen may be gone.
     pub fn sequence(&self) -> u32
-        ensures { Reads self.now result (λ s. s.sequence) }
+        ensures stands { Reads self.now result (λ s. s.sequence) }
+        ensures leaves { ReadsAtEnd self.now result (λ s. s.sequence) }
     {
         self.sequence
     }

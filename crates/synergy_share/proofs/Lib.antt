@@ -8,3 +8,4 @@ pub mod TextLines
 pub mod ReplayWords
 pub mod Adapters
 pub mod Headline
+pub mod Generated

@@ -12,3 +12,4 @@ pub mod Causes
 pub mod Statuses
 pub mod Words
 pub mod Adapters
+pub mod Generating

@@ -13,7 +13,8 @@ use std::alloc::Global;
 /// How many bytes a configuration has at most.
 pub const CONFIG_LIMIT: u64 = 1_048_576;
 
-fn parse_config(alloc: Global, text: &[u8]) -> Result<Config, Status>
+/// The configuration that the text spells, or how a command ends without it.
+pub(crate) fn parse_config(alloc: Global, text: &[u8]) -> Result<Config, Status>
     requires { length text.now < 2 ^ 32 - 1 }
     ensures { SpellsConfig result text.now }
 {

@@ -9,6 +9,9 @@
 mod check_tests;
 mod checking;
 mod commands;
+#[cfg(test)]
+mod generate_tests;
+mod generating;
 mod inject_core;
 mod laws;
 mod line_core;
@@ -26,6 +29,7 @@ mod top;
 pub use checking::run_check;
 pub use command_words::{Command, form};
 pub use commands::{run_inject, run_show};
+pub use generating::run_generate;
 pub use laws::{both_ends, file_decides, one_end, refusals_name_lines};
 pub use line_core::LineCore;
 pub use real::{StdFiles, StdSink, StdSource};

@@ -19,7 +19,9 @@ pub const SCRIPT_LIMIT: u64 = 16_777_216;
 /// How many bytes a trace has at most.
 pub const TRACE_LIMIT: u64 = 67_108_864;
 
-fn parse_script(alloc: Global, text: &[u8], config: &Config) -> Result<Script, Status>
+/// The script that the text spells, whose screens are those of `config`, or how a command ends
+/// without it.
+pub(crate) fn parse_script(alloc: Global, text: &[u8], config: &Config) -> Result<Script, Status>
     ensures spells { SpellsScript config.now result text.now }
     ensures known { IfOk result (ScreensBelow (screen_count config.now)) }
 {
@@ -56,7 +58,8 @@ pub(crate) fn read_script<F: Files>(
     }
 }
 
-fn parse_trace(alloc: Global, text: &[u8]) -> Result<Trace, Status>
+/// The trace that the text spells, or how a command ends without it.
+pub(crate) fn parse_trace(alloc: Global, text: &[u8]) -> Result<Trace, Status>
     ensures { SpellsTrace result text.now }
 {
     match script_screen::read_trace(alloc, text) {

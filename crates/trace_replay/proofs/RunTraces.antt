@@ -19,8 +19,11 @@ use Rattle.engine_loop.specs.declared.serve_end.ServeEnd.{ServeEnd}
 use Rattle.engine_loop.specs.declared.serve_end.ServeEnd.TheVariants as ends
 use Rattle.engine_loop.specs.Ends.{EndsBy}
 use Rattle.engine_loop.specs.Stages.{known_with}
-use Rattle.engine_loop.specs.Serving.{Serves}
+use Rattle.engine_loop.specs.Serving.{Serves, IsIn}
+use Rattle.server_core.specs.LastReadings.{ReadsAtEnd}
+use Rattle.server_core.specs.Driving.{departs_in}
 use Rattle.trace_replay.specs.Replaying.{Replayed, origin_of, first_of, played, turns_of}
+use Rattle.trace_replay.specs.Switches.{ReplayedWith, AreSwitches}
 
 known_are : (xs ys : List Act) → (let o : Option (List Act) = Some xs in o) ≡ Some ys → xs ≡ ys
 known_are xs ys e = cc
@@ -66,3 +69,20 @@ replayed departs config script trace turns end core hub hub' old new is all s =
       cause = subst (λ (n : ℕ). EndsBy end n s.run s.judge) all s.cause;
       log = s.log;
     }
+
+pub not_begun_with : (config : Configuration) (script : ScriptText) (trace : List TraceLine) (old : SinkState) → ReplayedWith config script trace ends.OutOfMemory 0 old old
+not_begun_with config script trace old = record { run = not_begun config script trace old; are_switches = tt }
+
+are_switches : (end : ServeEnd) (core : ServerCore) (switches : ℕ) (s : State) → ReadsAtEnd core switches (λ t. t.sequence) → IsIn departs_in end core s → AreSwitches end switches s
+are_switches ends.OutOfMemory core switches s reads h = tt
+are_switches end core switches s reads h = reads h.1.beside s h.1.leaves
+
+-- and the core tells the switches
+pub replayed_with : (config : Configuration) (script : ScriptText) (trace : List TraceLine) (turns : ℕ) (end : ServeEnd) (switches : ℕ) (core : ServerCore) (hub hub' : Played) (old new : SinkState)
+    → hub ≡ played trace → turns ≡ turns_of trace → ReadsAtEnd core switches (λ s. s.sequence) → Serves departs_in hub_state PlaysOn (origin_of config script) turns end core hub hub' old new
+    → ReplayedWith config script trace end switches old new
+unfolding replayed
+replayed_with config script trace turns end switches core hub hub' old new is all reads s = record {
+  run = replayed departs_in config script trace turns end core hub hub' old new is all s;
+  are_switches = are_switches end core switches s.last.state reads s.engine;
+}

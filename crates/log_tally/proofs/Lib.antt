@@ -1,0 +1,5 @@
+pub mod Bare
+pub mod LineSteps
+pub mod WordSteps
+pub mod Keeping
+pub mod TotalSteps
