@@ -5,5 +5,6 @@ pub mod Injection
 pub mod OneEnd
 pub mod Checked
 pub mod TextLines
-pub mod ReplayWords
+pub mod SameWords
 pub mod Adapters
+pub mod ServerEnds

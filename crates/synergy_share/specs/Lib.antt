@@ -7,6 +7,7 @@ pub mod Commands
 pub mod Checking
 pub mod Texts
 pub mod Replaying
+pub mod Serving
 pub mod Causes
 pub mod Statuses
 pub mod Words
