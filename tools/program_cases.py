@@ -178,6 +178,13 @@ def replays():
         yield Case(f"replay: {row.name}", words, row.code, row.line, row.log, files=files)
 
 
+def serve(name, script, turns, code, line="", **how):
+    """`serve` at a free port, to which nobody connects."""
+    files = [("conf", replay_rows.DESKS.encode()), ("script", script.encode())]
+    words = ["serve", *(name for name, _ in files), "0", str(turns)]
+    return Case(f"serve: {name}", words, code, line, files=files, **how)
+
+
 CASES = [
     usage("none"),
     usage("an unknown one", "injects"),
@@ -191,6 +198,11 @@ CASES = [
     usage("no file", "check"),
     usage("a file too many", "check", CONFIG, CONFIG),
     usage("a trace too few", "replay", CONFIG, CONFIG),
+    usage("no number of turns", "serve", CONFIG, CONFIG, "0"),
+    usage("a port above 65535", "serve", CONFIG, CONFIG, "65536", "0"),
+    usage("a port with a leading 0", "serve", CONFIG, CONFIG, "024800", "0"),
+    usage("a port with a sign", "serve", CONFIG, CONFIG, "+1", "0"),
+    usage("too many turns", "serve", CONFIG, CONFIG, "0", "4294967296"),
     usage("not UTF-8", b"\xff"),
     usage("a file's name that is not UTF-8", "check", CONFIG.encode() + b"\xff"),
     # How a stream ends.
@@ -267,5 +279,10 @@ CASES = [
     bad_config("2 18 UnknownAction", b"section: options\n\tkeystroke(F1) = dance(on)\n"),
     bad_config("66 2 TooMany", b"section: screens\n" + b"".join(b"\ts%d:\n" % number for number in range(65))),
     *replays(),
+    serve("no turn", replay_rows.BEGIN, 0, 7, "turns spent"),
+    serve("turns in which nobody comes", replay_rows.BEGIN, 2, 7, "turns spent"),
+    serve("a script that quits", "primary desk 1920 1080\nquit\n", 10, 0),
+    serve("a script that is refused", replay_rows.BEGIN + "key up 38\n", 0, 1, "script 3 NotDown"),
+    serve("an output that nothing is written to", replay_rows.BEGIN, 0, 7, "turns spent", stdout=FULL),
     *examples(),
 ]

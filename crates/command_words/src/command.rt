@@ -20,4 +20,15 @@ pub enum Command<'a> {
         /// The name of the trace's file.
         trace: &'a str,
     },
+    /// A server of that configuration and that script, for clients that connect to it.
+    Serve {
+        /// The name of the configuration's file.
+        config: &'a str,
+        /// The name of the script's file.
+        script: &'a str,
+        /// The port that it listens at, 0 for any free one.
+        port: u16,
+        /// How many turns it makes at most.
+        turns: u32,
+    },
 }

@@ -27,6 +27,16 @@ fn commands_have_exactly_their_words(rt: HostRuntime) {
         ("replay desks script trace", true),
         ("replay desks script", false),
         ("inject more", false),
+        ("serve desks script 0 0", true),
+        ("serve desks script 65535 4294967295", true),
+        ("serve desks script 65536 0", false),
+        ("serve desks script 0 4294967296", false),
+        ("serve desks script 024800 1", false),
+        ("serve desks script +1 1", false),
+        ("serve desks script -1 1", false),
+        ("serve desks script 0x1 1", false),
+        ("serve desks script 1", false),
+        ("serve desks script 1 1 1", false),
         ("--help", false),
     ];
     for (line, is_one) in &rows {

@@ -5,7 +5,8 @@ pub mod Injection
 pub mod OneEnd
 pub mod Checked
 pub mod TextLines
-pub mod ReplayWords
+pub mod SameWords
 pub mod Adapters
 pub mod Headline
 pub mod Generated
+pub mod ServerEnds

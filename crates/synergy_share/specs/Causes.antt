@@ -1,5 +1,5 @@
 -- The causes of faults: which count rose at which status.
-use Rattle.std.specs.Prelude.{◌≡◌, ℕ, ◌⊎◌}
+use Rattle.std.specs.Prelude.{◌≡◌, ℕ, ◌≤◌, ◌⊎◌}
 use Rattle.share_base.specs.Counts.{Rises}
 use Rattle.share_base.specs.Reading.{SourceState}
 use Rattle.share_base.specs.Writing.{SinkState}
@@ -30,6 +30,14 @@ FileCounts _ old new = new ≡ old
 abbrev pub FileCauses : Status → ℕ → ℕ → SinkState → SinkState → Type 0
 FileCauses end files files' out out' =
     FileCounts end files files' × SinkCounts end out.faults out'.faults
+
+-- the count of the hub's faults rose at a hub fault, and stayed at every other status; where the
+-- output failed or memory ran out, it may have risen before that
+abbrev pub HubFaults : Status → ℕ → ℕ → Type 0
+HubFaults status.HubFault old new = Rises old new
+HubFaults status.WriteFault old new = old ≤ new
+HubFaults status.OutOfMemory old new = old ≤ new
+HubFaults _ old new = new ≡ old
 
 -- a command reads the input or a file: one of the counts goes by the status, and the other stayed
 abbrev pub ReadCounts : Status → ℕ → ℕ → ℕ → ℕ → Type 0

@@ -8,6 +8,7 @@ pub mod Checking
 pub mod Texts
 pub mod Replaying
 pub mod Headline
+pub mod Serving
 pub mod Causes
 pub mod Statuses
 pub mod Words

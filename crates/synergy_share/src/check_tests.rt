@@ -1,6 +1,7 @@
 //! The command `check`, on files in memory.
 
 use super::*;
+use crate::idle_hub::IdleHub;
 use config_text::ConfigKind;
 use share_base::{MemoryFiles, MemorySink, MemorySource, OutOfMemory};
 use std::alloc::Global;
@@ -232,7 +233,15 @@ fn words_name_one_file(rt: HostRuntime) -> Result<(), Fail> {
         files.add("desks", SCREENS)?;
         let mut input = MemorySource::new(rt.alloc(), &[], &[])?;
         let mut out = MemorySink::new(rt.alloc(), 1000, &[])?;
-        let ended = run(rt.alloc(), &given, &mut files, &mut input, &mut out);
+        let mut hub = IdleHub::new(false);
+        let ended = run(
+            rt.alloc(),
+            &given,
+            &mut files,
+            &mut input,
+            &mut hub,
+            &mut out,
+        );
         assert_eq!(rt; ended, status);
     }
     Ok(())

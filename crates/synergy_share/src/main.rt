@@ -12,6 +12,7 @@ mod commands;
 #[cfg(test)]
 mod generate_tests;
 mod generating;
+mod idle_hub;
 mod inject_core;
 mod laws;
 mod line_core;
@@ -19,6 +20,9 @@ mod real;
 #[cfg(test)]
 mod real_tests;
 mod replaying;
+#[cfg(test)]
+mod serve_tests;
+mod serving;
 mod show_core;
 mod status;
 #[cfg(test)]
@@ -34,6 +38,7 @@ pub use laws::{both_ends, file_decides, one_end, refusals_name_lines};
 pub use line_core::LineCore;
 pub use real::{StdFiles, StdSink, StdSource};
 pub use replaying::run_replay;
+pub use serving::run_serve;
 pub use show_core::ShowCore;
 pub use status::Status;
 use std::env;
@@ -58,9 +63,17 @@ fn words_of(rt: &HostRuntime) -> Result<Vec<String>, Status> {
 fn main(rt: HostRuntime) -> ExitCode {
     let mut files = StdFiles::new(&rt, rt.alloc());
     let mut input = StdSource::new(rt.stdin());
+    let mut hub = idle_hub::IdleHub::new(false);
     let mut out = StdSink::new(rt.stdout());
     let status = match words_of(&rt) {
-        Ok(words) => run(rt.alloc(), &words, &mut files, &mut input, &mut out),
+        Ok(words) => run(
+            rt.alloc(),
+            &words,
+            &mut files,
+            &mut input,
+            &mut hub,
+            &mut out,
+        ),
         Err(status) => status,
     };
     // If standard error fails too, the exit code still tells how the program ended.

@@ -1,4 +1,5 @@
 use super::*;
+use crate::idle_hub::IdleHub;
 use client_core::{LostCause, Which};
 use message_codec::End;
 use share_base::{MemoryFiles, MemorySink, MemorySource, OutOfMemory, Reason};
@@ -308,10 +309,16 @@ fn words_name_a_command_or_none(rt: HostRuntime) -> Result<(), Fail> {
         let mut out = MemorySink::new(rt.alloc(), 0, &[])?;
         let words = vec![in rt.alloc(); String::from_str(rt.alloc(), word)?]?;
         let mut files = MemoryFiles::new(rt.alloc(), &[])?;
-        assert_eq!(rt;
-            run(rt.alloc(), &words, &mut files, &mut input, &mut out),
-            status
+        let mut hub = IdleHub::new(false);
+        let ended = run(
+            rt.alloc(),
+            &words,
+            &mut files,
+            &mut input,
+            &mut hub,
+            &mut out,
         );
+        assert_eq!(rt; ended, status);
     }
     for (word, status) in [
         ("server", Status::Ok),
@@ -323,10 +330,16 @@ fn words_name_a_command_or_none(rt: HostRuntime) -> Result<(), Fail> {
         let show = String::from_str(rt.alloc(), "show")?;
         let words = vec![in rt.alloc(); show, String::from_str(rt.alloc(), word)?]?;
         let mut files = MemoryFiles::new(rt.alloc(), &[])?;
-        assert_eq!(rt;
-            run(rt.alloc(), &words, &mut files, &mut input, &mut out),
-            status
+        let mut hub = IdleHub::new(false);
+        let ended = run(
+            rt.alloc(),
+            &words,
+            &mut files,
+            &mut input,
+            &mut hub,
+            &mut out,
         );
+        assert_eq!(rt; ended, status);
     }
     Ok(())
 }

@@ -2,33 +2,39 @@
 
 ghost use Rattle.std.specs.Prelude.{◌≡◌, IfSome, List, ℕ};
 ghost use Rattle.share_base.specs.Told.{NotSet};
-ghost use Rattle.command_words.specs.Forms.{Form, Inject, Check, Replay, Names, NoForm};
+ghost use Rattle.engine_loop.specs.Serving.{IsNewHub};
+ghost use Rattle.command_words.specs.Forms.{Form, Inject, Check, Replay, Serve, Names, NoForm};
 ghost use Rattle.synergy_share.specs.Words.{Leaves, way_of};
 ghost use Rattle.synergy_share.specs.Commands.{Reads, Stops, Releases};
 ghost use Rattle.synergy_share.specs.Checking.{Checks, ReadsOnce, OverCounts};
 ghost use Rattle.synergy_share.specs.Replaying.{Replays, given_by};
 ghost use Rattle.synergy_share.specs.Headline.{SharesIfRun};
-ghost use Rattle.synergy_share.specs.Causes.{AllCauses};
+ghost use Rattle.synergy_share.specs.Serving.{ServesFiles, to_serve};
+ghost use Rattle.synergy_share.specs.Causes.{AllCauses, HubFaults};
 
 use crate::checking::run_check;
 use crate::commands::{run_inject, run_show};
 use crate::replaying::run_replay;
+use crate::serving::run_serve;
 use crate::status::Status;
 use command_words::{Command, form};
+use hub_acts::Hub;
 use share_base::{Files, Sink, Source};
 use std::alloc::Global;
 
 /// Does what the words say, those after the program's name. It answers `Usage` if they name no
 /// command, and then nothing was touched; else it answers what the command's own call answers, and
 /// what that call doesn't take is untouched.
-pub fn run<F: Files, S: Source, K: Sink>(
+pub fn run<F: Files, S: Source, H: Hub, K: Sink>(
     alloc: Global,
     words: &[String],
     files: &mut F,
     input: &mut S,
+    hub: &mut H,
     out: &mut K,
 ) -> Status
-    requires { NotSet (S.state input.old).ended }
+    requires input { NotSet (S.state input.old).ended }
+    requires new_hub { IsNewHub (H.state hub.old) }
     ensures does { (command : Form) → Names command words.now → IfSome (way_of command)
         (λ way.
         Reads way result (S.state input.old) (S.state input.new) (K.state out.old)
@@ -54,11 +60,24 @@ pub fn run<F: Files, S: Source, K: Sink>(
     ensures replay_overs { (config script trace : List ℕ)
         → Names (Replay config script trace) words.now
         → OverCounts result (F.overs files.old) (F.overs files.new) }
+    ensures serves { (config script : List ℕ) (port turns : ℕ)
+        → Names (Serve config script port turns) words.now
+        → ServesFiles H.state H.leads result
+        (to_serve (F.told files.old) config script port turns)
+        (F.calls files.old) (F.calls files.new) hub.old hub.new
+        (K.state out.old) (K.state out.new) }
+    ensures serve_overs { (config script : List ℕ) (port turns : ℕ)
+        → Names (Serve config script port turns) words.now
+        → OverCounts result (F.overs files.old) (F.overs files.new) }
+    ensures hub_faults { (config script : List ℕ) (port turns : ℕ)
+        → Names (Serve config script port turns) words.now
+        → HubFaults result (H.state hub.old).faults (H.state hub.new).faults }
     ensures usage { NoForm words.now → result ≡ Status.Usage }
     ensures untouched { NoForm words.now
-        → (files.new ≡ files.old) × (input.new ≡ input.old) × (out.new ≡ out.old) }
+        → (files.new ≡ files.old) × (input.new ≡ input.old) × (hub.new ≡ hub.old)
+        × (out.new ≡ out.old) }
     ensures leaves { (command : Form) → Names command words.now
-        → Leaves command (files.new ≡ files.old) (input.new ≡ input.old) }
+        → Leaves command (files.new ≡ files.old) (input.new ≡ input.old) (hub.new ≡ hub.old) }
     ensures causes { AllCauses result (F.faults files.old) (F.faults files.new)
         (S.state input.old) (S.state input.new) (K.state out.old) (K.state out.new) }
 {
@@ -73,6 +92,14 @@ pub fn run<F: Files, S: Source, K: Sink>(
                 trace,
             },
         ) => run_replay(alloc, config, script, trace, files, out),
+        Some(
+            Command::Serve {
+                config,
+                script,
+                port,
+                turns,
+            },
+        ) => run_serve(alloc, config, script, port, turns, files, hub, out),
         None => Status::Usage,
     }
 }

@@ -1,10 +1,11 @@
 use Rattle.command_words.specs.declared.command.Command.{Command}
-use Rattle.command_words.specs.Forms.{Check, Replay, Names, form_of}
+use Rattle.command_words.specs.Forms.{Check, Replay, Serve, Names, form_of}
 use Rattle.std.specs.Prelude.{ℕ, List}
 use Rattle.std.proofs.Common.{subst}
 use Rattle.synergy_share.specs.Replaying.{Replays, given_by}
 use Rattle.synergy_share.specs.Headline.{SharesIfRun}
-use Rattle.synergy_share.proofs.ReplayWords.{same_replay}
+use Rattle.synergy_share.specs.Serving.{ServesFiles, to_serve}
+use Rattle.synergy_share.proofs.SameWords.{same_replay, same_serve}
 use Rattle.synergy_share.proofs.top.run.Goals as goal
 
 pub returns-in-None-clause-checks : goal.returns-in-None-clause-checks
@@ -18,6 +19,15 @@ returns-in-None-clause-replays g c config script trace names = absurd (c.in-None
 
 pub returns-in-None-clause-replay_overs : goal.returns-in-None-clause-replay_overs
 returns-in-None-clause-replay_overs g c config script trace names = absurd (c.in-None.ensures.none (Replay config script trace) names)
+
+pub returns-in-None-clause-serves : goal.returns-in-None-clause-serves
+returns-in-None-clause-serves g c config script port turns names = absurd (c.in-None.ensures.none (Serve config script port turns) names)
+
+pub returns-in-None-clause-serve_overs : goal.returns-in-None-clause-serve_overs
+returns-in-None-clause-serve_overs g c config script port turns names = absurd (c.in-None.ensures.none (Serve config script port turns) names)
+
+pub returns-in-None-clause-hub_faults : goal.returns-in-None-clause-hub_faults
+returns-in-None-clause-hub_faults g c config script port turns names = absurd (c.in-None.ensures.none (Serve config script port turns) names)
 
 pub returns-in-Some-Replay-clause-replays : goal.returns-in-Some-Replay-clause-replays
 returns-in-Some-Replay-clause-replays g c config script trace names =
@@ -48,3 +58,19 @@ returns-in-Some-Replay-clause-headline g c config script trace names =
     subst (λ (x : List ℕ). SharesIfRun end (given_by told x script trace) out out') same.0
     (subst (λ (x : List ℕ). SharesIfRun end (given_by told r.config.now x trace) out out') same.1
     (subst (λ (x : List ℕ). SharesIfRun end (given_by told r.config.now r.script.now x) out out') same.2 c.run_replay.ensures.headline))
+pub returns-in-Some-Serve-clause-serves : goal.returns-in-Some-Serve-clause-serves
+returns-in-Some-Serve-clause-serves g c config script port turns names =
+    let r = c.in-Some-Serve in
+    let same = same_serve c.args.words.now r.config.now r.script.now r.port r.turns config script port turns named names in
+    let calls = g.F.Files.calls c.args.files.now in
+    let calls' = g.F.Files.calls c.run_serve.new.files in
+    let out' = g.K.Sink.state c.run_serve.new.out in
+    let hub = c.args.hub.now in
+    let hub' = c.run_serve.new.hub in
+    let state = g.H.Hub.state in
+    let leads = g.H.Hub.leads in
+    let end = c.run_serve.result in
+    subst (λ (x : List ℕ). ServesFiles state leads end (to_serve told x script port turns) calls calls' hub hub' out out') same.0
+    (subst (λ (x : List ℕ). ServesFiles state leads end (to_serve told r.config.now x port turns) calls calls' hub hub' out out') same.1
+    (subst (λ (x : ℕ). ServesFiles state leads end (to_serve told r.config.now r.script.now x turns) calls calls' hub hub' out out') same.2
+    (subst (λ (x : ℕ). ServesFiles state leads end (to_serve told r.config.now r.script.now r.port x) calls calls' hub hub' out out') same.3 c.run_serve.ensures.serves)))
