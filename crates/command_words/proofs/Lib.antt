@@ -1,1 +1,4 @@
 pub mod Counted
+pub mod WordNumbers
+pub mod OneForm
+pub mod SpelledNumbers

@@ -5,9 +5,11 @@
 #![tactic(auto)]
 
 mod command;
+mod laws;
 #[cfg(test)]
 mod tests;
 mod words;
 
 pub use command::Command;
+pub use laws::words_name_one_command;
 pub use words::form;
