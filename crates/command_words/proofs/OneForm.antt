@@ -2,7 +2,7 @@
 use Rattle.std.proofs.Common.{◌≡◌, ℕ, List, [], ◌∷◌, refl, sym, ap, ◌∙◌, arith}
 use Rattle.message_codec.specs.declared.messages.End.{End}
 use Rattle.message_codec.specs.declared.messages.End.TheVariants as ends
-use Rattle.command_words.specs.Forms.{Form, Inject, Show, Check, Replay, Serve, end_word, words_of}
+use Rattle.command_words.specs.Forms.{Form, Inject, Show, Check, Replay, Serve, Join, Generate, end_word, words_of}
 use Rattle.command_words.specs.Forms.{Spells}
 use Rattle.command_words.proofs.WordNumbers.{same_digits}
 
@@ -29,6 +29,14 @@ same_form (Serve a b c d) (Serve a' b' c' d') spelled h k e =
     let port : c ≡ c' = same_digits 65535 c c' (omega arith) h.0.0.1 k.0.0.1 cc in
     let turns : d ≡ d' = same_digits 4294967295 d d' (omega arith) h.0.1.1 k.0.1.1 cc in
     cc
+same_form (Join a b c d f g i) (Join a' b' c' d' f' g' i') spelled h k e =
+    let port : c ≡ c' = same_digits 65535 c c' (omega arith) h.0.1.1 k.0.1.1 cc in
+    let w : d ≡ d' = same_digits 32767 d d' (omega arith) h.0.2.1 k.0.2.1 cc in
+    let h' : f ≡ f' = same_digits 32767 f f' (omega arith) h.0.3.1 k.0.3.1 cc in
+    let turns : i ≡ i' = same_digits 4294967295 i i' (omega arith) h.0.4.1 k.0.4.1 cc in
+    cc
+same_form (Generate a) (Generate a') spelled h k e =
+    ap Generate (same_digits 18446744073709551615 a a' (omega arith) h.0.1 k.0.1 cc)
 same_form form other spelled h k e = absurd cc
 
 pub one_form : (form other : Form) (spelled : List (List ℕ)) → Spells form spelled

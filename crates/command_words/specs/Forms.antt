@@ -1,11 +1,12 @@
 -- The commands of the program, and the words that name each.
-use Rattle.std.specs.Prelude.{◌≡◌, ℕ, List, [], ◌∷◌, map, codes, Option, Some, None, String}
+use Rattle.std.specs.Prelude.{◌≡◌, ℕ, true, List, [], ◌∷◌, map, codes, Option, Some, None, String}
 use Rattle.std.specs.Prelude.{string_bytes}
 use Rattle.std.specs.Fmt.{decimal}
 use Rattle.std.specs.Global.{Global}
+use Rattle.share_base.specs.Names.{is_name}
 use Rattle.message_codec.specs.declared.messages.End.{End}
 use Rattle.message_codec.specs.declared.messages.End.TheVariants as ends
-use Rattle.command_words.specs.Numbers.{IsPort, AreTurns}
+use Rattle.command_words.specs.Numbers.{IsPort, AreTurns, IsSize, IsLong}
 use Rattle.command_words.specs.declared.command.Command.{Command}
 use Rattle.command_words.specs.declared.command.Command.TheVariants as command
 
@@ -16,6 +17,8 @@ pub data Form : Type 0 where
   Check : (config : List ℕ) → Form
   Replay : (config script trace : List ℕ) → Form
   Serve : (config script : List ℕ) (port turns : ℕ) → Form
+  Join : (name host : List ℕ) (port w h : ℕ) (script : List ℕ) (turns : ℕ) → Form
+  Generate : (n : ℕ) → Form
 
 -- ---- words
 
@@ -30,6 +33,8 @@ command_word (Show from) = codes "show"
 command_word (Check config) = codes "check"
 command_word (Replay config script trace) = codes "replay"
 command_word (Serve config script port turns) = codes "serve"
+command_word (Join name host port w h script turns) = codes "join"
+command_word (Generate n) = codes "generate"
 
 -- the words after it, numbers in their decimal digits
 abbrev pub arguments_of : Form → List (List ℕ)
@@ -39,13 +44,23 @@ arguments_of (Check config) = config ∷ []
 arguments_of (Replay config script trace) = config ∷ script ∷ trace ∷ []
 arguments_of (Serve config script port turns) =
     config ∷ script ∷ decimal port ∷ decimal turns ∷ []
+arguments_of (Join name host port w h script turns) =
+    name ∷ host ∷ decimal port ∷ decimal w ∷ decimal h ∷ script ∷ decimal turns ∷ []
+arguments_of (Generate n) = decimal n ∷ []
 
 abbrev pub words_of : Form → List (List ℕ)
 words_of form = command_word form ∷ arguments_of form
 
--- its numbers are within their limits
+-- what a client of that name, on a screen of that width and height, connects to
+abbrev pub IsJoin : List ℕ → ℕ → ℕ → ℕ → ℕ → Type 0
+IsJoin name port w h turns =
+    (is_name name ≡ true) × IsPort port × IsSize w × IsSize h × AreTurns turns
+
+-- its numbers are within their limits, and its name is that of a screen
 abbrev pub IsInRange : Form → Type 0
 IsInRange (Serve config script port turns) = IsPort port × AreTurns turns
+IsInRange (Join name host port w h script turns) = IsJoin name port w h turns
+IsInRange (Generate n) = IsLong n
 IsInRange form = Unit {0}
 
 -- these words spell the command
@@ -67,6 +82,9 @@ form_of (command.Show from) = Show from
 form_of (command.Check config) = Check config.now
 form_of (command.Replay config script trace) = Replay config.now script.now trace.now
 form_of (command.Serve config script port turns) = Serve config.now script.now port turns
+form_of (command.Join name host port w h script turns) =
+    Join name host.now port w h script.now turns
+form_of (command.Generate n) = Generate n
 
 -- ---- what is read
 

@@ -8,6 +8,12 @@ IsWithin least most n = (least ≤ n) × (n ≤ most)
 abbrev pub IsPort : ℕ → Type 0
 IsPort port = IsWithin 0 65535 port
 
+abbrev pub IsSize : ℕ → Type 0
+IsSize size = IsWithin 1 32767 size
+
+abbrev pub IsLong : ℕ → Type 0
+IsLong n = IsWithin 0 18446744073709551615 n
+
 abbrev pub AreTurns : ℕ → Type 0
 AreTurns turns = IsWithin 0 4294967295 turns
 

@@ -1,9 +1,10 @@
 //! The commands.
 
 use message_codec::End;
+use share_base::ScreenName;
 
 /// A command of the program, with the words that it takes as they are.
-#[derive(Clone, Copy, Debug, PartialEq, Eq)]
+#[derive(Debug, Drop)]
 pub enum Command<'a> {
     /// Frames of a server from standard input, as lines of injection.
     Inject,
@@ -31,4 +32,23 @@ pub enum Command<'a> {
         /// How many turns it makes at most.
         turns: u32,
     },
+    /// A client that connects to a server.
+    Join {
+        /// The name of its screen.
+        name: ScreenName,
+        /// The server's host.
+        host: &'a str,
+        /// The server's port.
+        port: u16,
+        /// The width of its screen, 1 to 32,767.
+        w: u16,
+        /// The height of its screen, 1 to 32,767.
+        h: u16,
+        /// The name of the script's file.
+        script: &'a str,
+        /// How many turns it makes at most.
+        turns: u32,
+    },
+    /// The generated texts of that number, and a run over them.
+    Generate(u64),
 }

@@ -37,6 +37,16 @@ fn commands_have_exactly_their_words(rt: HostRuntime) {
         ("serve desks script 0x1 1", false),
         ("serve desks script 1", false),
         ("serve desks script 1 1 1", false),
+        ("join pad localhost 24800 1 32767 script 0", true),
+        ("join pad. - 0 1024 768 script 1", true),
+        ("join -pad localhost 24800 1024 768 script 1", false),
+        ("join pad localhost 24800 0 768 script 1", false),
+        ("join pad localhost 24800 1024 32768 script 1", false),
+        ("join pad localhost 24800 1024 768 script", false),
+        ("generate 0", true),
+        ("generate 18446744073709551615", true),
+        ("generate 18446744073709551616", false),
+        ("generate", false),
         ("--help", false),
     ];
     for (line, is_one) in &rows {

@@ -6,6 +6,7 @@ ghost use Rattle.command_words.specs.Numbers.{number_of};
 
 use crate::command::Command;
 use message_codec::End;
+use share_base::ScreenName;
 use text_lines::decimal_u64;
 
 /// The number that the word spells in decimal digits, from `least` to `most`.
@@ -41,6 +42,8 @@ fn by_command<'a>(command: &String, rest: &'a [String]) -> Option<Command<'a>>
         "check" => check(rest),
         "replay" => replay(rest),
         "serve" => serve(rest),
+        "join" => join(rest),
+        "generate" => generate(rest),
         _ => None,
     }
 }
@@ -121,4 +124,70 @@ fn serve_by<'a>(
         port: port as u16,
         turns: turns as u32,
     })
+}
+
+fn join(rest: &[String]) -> Option<Command<'_>>
+    ensures { Reads (codes "join") rest.now result }
+{
+    let [name, host, port, w, h, script, turns] = rest else {
+        return None;
+    };
+    join_by(name, host, port, w, h, script, turns)
+}
+
+fn join_by<'a>(
+    name: &String,
+    host: &'a String,
+    port: &String,
+    w: &String,
+    h: &String,
+    script: &'a String,
+    turns: &String,
+) -> Option<Command<'a>>
+    ensures { ReadsAll (codes "join" ∷ string_bytes name.now ∷ string_bytes host.now
+        ∷ string_bytes port.now ∷ string_bytes w.now ∷ string_bytes h.now
+        ∷ string_bytes script.now ∷ string_bytes turns.now ∷ []) result }
+{
+    let Some(name) = ScreenName::read(name.as_bytes()) else {
+        return None;
+    };
+    let Some(port) = number(port.as_bytes(), 0, 65_535) else {
+        return None;
+    };
+    let Some(w) = number(w.as_bytes(), 1, 32_767) else {
+        return None;
+    };
+    let Some(h) = number(h.as_bytes(), 1, 32_767) else {
+        return None;
+    };
+    let Some(turns) = number(turns.as_bytes(), 0, 4_294_967_295) else {
+        return None;
+    };
+    Some(Command::Join {
+        name,
+        host: host.as_str(),
+        port: port as u16,
+        w: w as u16,
+        h: h as u16,
+        script: script.as_str(),
+        turns: turns as u32,
+    })
+}
+
+fn generate(rest: &[String]) -> Option<Command<'_>>
+    ensures { Reads (codes "generate") rest.now result }
+{
+    let [n] = rest else {
+        return None;
+    };
+    generate_by(n)
+}
+
+fn generate_by<'a>(n: &String) -> Option<Command<'a>>
+    ensures { ReadsAll (codes "generate" ∷ string_bytes n.now ∷ []) result }
+{
+    let Some(n) = number(n.as_bytes(), 0, 18_446_744_073_709_551_615) else {
+        return None;
+    };
+    Some(Command::Generate(n))
 }
