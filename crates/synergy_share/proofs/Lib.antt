@@ -1,3 +1,4 @@
+pub mod ClientEnds
 pub mod InputEnds
 pub mod Shown
 pub mod Runs

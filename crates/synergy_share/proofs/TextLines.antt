@@ -9,12 +9,13 @@ use Rattle.script_screen.specs.declared.kinds.TextKind.TheVariants.{TooLong}
 use Rattle.script_screen.specs.declared.trace.TraceLine.{TraceLine}
 use Rattle.script_screen.specs.Scripts.{ScriptText}
 use Rattle.script_screen.specs.NumberedLines.{TextRefusal, refused_at, line_judged, at_line, numbered}
-use Rattle.script_screen.specs.Texts.{script_judged, script_start, trace_judged}
-use Rattle.script_screen.specs.Verdicts.{ScriptRefuses, TraceRefuses}
+use Rattle.script_screen.specs.declared.client_script.ClientLine.{ClientLine}
+use Rattle.script_screen.specs.Texts.{script_judged, script_start, client_judged, trace_judged}
+use Rattle.script_screen.specs.Verdicts.{ScriptRefuses, ClientRefuses, TraceRefuses}
 use Rattle.synergy_share.specs.declared.status.Status.{Status}
 use Rattle.synergy_share.specs.declared.status.Status.TheVariants as status
 use Rattle.synergy_share.specs.Checking.{OverCounts, end_of}
-use Rattle.synergy_share.specs.Texts.{SpellsScript, SpellsTrace}
+use Rattle.synergy_share.specs.Texts.{SpellsScript, SpellsClientScript, SpellsTrace}
 
 abbrev line_of : TextRefusal → ℕ
 line_of r = r.line
@@ -40,6 +41,9 @@ script_line_named : (config : Configuration) (text : List ℕ) (r : TextRefusal)
 script_line_named config text r (inl o) = offends_at script_judged (script_start config) (lines text) r o
 script_line_named config text r (inr n) = omega (arith, ap line_of n.place)
 
+client_line_named : (text : List ℕ) (r : TextRefusal) → ClientRefuses text r → 0 < r.line
+client_line_named text r o = offends_at client_judged [] (lines text) r o
+
 trace_line_named : (text : List ℕ) (r : TextRefusal) → TraceRefuses text r → 0 < r.line
 trace_line_named text r o = offends_at trace_judged [] (lines text) r o
 
@@ -58,6 +62,12 @@ script_overs config (Ok script) text old new spells same = same
 script_overs config (Err (status.BadScript line k)) text old new spells same = script_kept line k old new (script_line_named config text (refused_at line k) spells) same
 script_overs config (Err status.OutOfMemory) text old new spells same = same
 script_overs config (Err _) text old new spells same = absurd spells
+
+pub client_overs : (r : Result (List ClientLine) Status) (text : List ℕ) (old new : ℕ) → SpellsClientScript r text → new ≡ old → OverCounts (end_of r) old new
+client_overs (Ok script) text old new spells same = same
+client_overs (Err (status.BadScript line k)) text old new spells same = script_kept line k old new (client_line_named text (refused_at line k) spells) same
+client_overs (Err status.OutOfMemory) text old new spells same = same
+client_overs (Err _) text old new spells same = absurd spells
 
 pub trace_overs : (r : Result (List TraceLine) Status) (text : List ℕ) (old new : ℕ) → SpellsTrace r text → new ≡ old → OverCounts (end_of r) old new
 trace_overs (Ok trace) text old new spells same = same

@@ -14,3 +14,4 @@ pub mod Statuses
 pub mod Words
 pub mod Adapters
 pub mod Generating
+pub mod Joining

@@ -2,10 +2,12 @@
 use Rattle.std.specs.Prelude.{◌≡◌, ℕ, ◌<◌, List, length, Option, IfSome, Result, Ok, Err, ◌⊎◌}
 use Rattle.screen_config.specs.Configurations.{Configuration}
 use Rattle.script_screen.specs.declared.kinds.TextKind.TheVariants as kind
+use Rattle.script_screen.specs.declared.client_script.ClientLine.{ClientLine}
 use Rattle.script_screen.specs.declared.trace.TraceLine.{TraceLine}
 use Rattle.script_screen.specs.NumberedLines.{TextRefusal, refused_at}
 use Rattle.script_screen.specs.Scripts.{ScriptText}
 use Rattle.script_screen.specs.Verdicts.{ScriptAccepts, ScriptRefuses, TraceAccepts, TraceRefuses}
+use Rattle.script_screen.specs.Verdicts.{ClientAccepts, ClientRefuses}
 use Rattle.synergy_share.specs.declared.status.Status.{Status}
 use Rattle.synergy_share.specs.declared.status.Status.TheVariants as status
 use Rattle.synergy_share.specs.Checking.{HasText}
@@ -53,6 +55,32 @@ SpellsScript config (Err _) text = ⊥
 abbrev pub ReadsScript : Configuration → Result ScriptText Status → Option (List ℕ) → Type 0
 ReadsScript config (Ok script) told = HasScript config told script
 ReadsScript config (Err end) told = NoScript config end told
+
+-- ---- client scripts
+
+-- the file spells that script of a client
+abbrev pub HasClientScript : Option (List ℕ) → List ClientLine → Type 0
+HasClientScript told script = HasText script_limit told (λ text. ClientAccepts text script)
+
+-- why a command ends so without a client script
+abbrev pub NoClientScript : Status → Option (List ℕ) → Type 0
+NoClientScript (status.BadScript line k) told =
+    IsRefusedText script_limit ClientRefuses told (refused_at line k)
+NoClientScript status.ReadFault told = Unit {0}
+NoClientScript status.OutOfMemory told = Unit {0}
+NoClientScript _ told = ⊥
+
+-- what a text gives: the client script that it spells, or how the command ends without one
+abbrev pub SpellsClientScript : Result (List ClientLine) Status → List ℕ → Type 0
+SpellsClientScript (Ok script) text = ClientAccepts text script
+SpellsClientScript (Err (status.BadScript line k)) text = ClientRefuses text (refused_at line k)
+SpellsClientScript (Err status.OutOfMemory) text = Unit {0}
+SpellsClientScript (Err _) text = ⊥
+
+-- what reading the file gives
+abbrev pub ReadsClientScript : Result (List ClientLine) Status → Option (List ℕ) → Type 0
+ReadsClientScript (Ok script) told = HasClientScript told script
+ReadsClientScript (Err end) told = NoClientScript end told
 
 -- ---- traces
 

@@ -6,10 +6,11 @@ ghost use Rattle.script_screen.specs.Screens.{screen_count};
 ghost use Rattle.synergy_share.specs.Causes.{FileCounts};
 ghost use Rattle.synergy_share.specs.Checking.{ReadsOnce, OverCounts, end_of};
 ghost use Rattle.synergy_share.specs.Texts.{ReadsScript, SpellsScript, ReadsTrace, SpellsTrace};
+ghost use Rattle.synergy_share.specs.Texts.{ReadsClientScript, SpellsClientScript};
 
 use crate::status::Status;
 use config_text::Config;
-use script_screen::{Script, TextFault, TextKind, Trace};
+use script_screen::{ClientScript, Script, TextFault, TextKind, Trace};
 use share_base::{FileAnswer, Files};
 use std::alloc::Global;
 
@@ -49,6 +50,40 @@ pub(crate) fn read_script<F: Files>(
 {
     match files.read_all(name, SCRIPT_LIMIT) {
         FileAnswer::Bytes(text) => parse_script(alloc, text.as_slice(), config),
+        FileAnswer::TooBig => Err(Status::BadScript {
+            line: 0,
+            kind: TextKind::TooLong,
+        }),
+        FileAnswer::Failed => Err(Status::ReadFault),
+        FileAnswer::OutOfMemory => Err(Status::OutOfMemory),
+    }
+}
+
+/// The client script that the text spells, or how a command ends without it.
+fn parse_client_script(alloc: Global, text: &[u8]) -> Result<ClientScript, Status>
+    ensures { SpellsClientScript result text.now }
+{
+    match script_screen::read_client_script(alloc, text) {
+        Ok(script) => Ok(script),
+        Err(TextFault::Refused { line, kind }) => Err(Status::BadScript { line, kind }),
+        Err(TextFault::OutOfMemory) => Err(Status::OutOfMemory),
+    }
+}
+
+/// The client script in the file of that name, or how a command ends without it.
+pub(crate) fn read_client_script<F: Files>(
+    alloc: Global,
+    name: &str,
+    files: &mut F,
+) -> Result<ClientScript, Status>
+    ensures reads { ReadsClientScript result (F.told files.old name.now) }
+    ensures once { ReadsOnce (F.told files.old) (F.told files.new) (F.calls files.old)
+        (F.calls files.new) }
+    ensures overs { OverCounts (end_of result) (F.overs files.old) (F.overs files.new) }
+    ensures faults { FileCounts (end_of result) (F.faults files.old) (F.faults files.new) }
+{
+    match files.read_all(name, SCRIPT_LIMIT) {
+        FileAnswer::Bytes(text) => parse_client_script(alloc, text.as_slice()),
         FileAnswer::TooBig => Err(Status::BadScript {
             line: 0,
             kind: TextKind::TooLong,
