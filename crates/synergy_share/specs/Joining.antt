@@ -37,6 +37,20 @@ pub record ToJoin : Type 0 where
   pub script : Option (List ℕ)
   pub turns : ℕ
 
+-- what the file of that name holds
+abbrev pub to_join : (List ℕ → Option (List ℕ)) → (name host : List ℕ) → (port w h : ℕ) → List ℕ
+    → (turns : ℕ) → ToJoin
+to_join told name host port w h script turns =
+    record {
+      host = host;
+      port = port;
+      name = name;
+      w = w;
+      h = h;
+      script = told script;
+      turns = turns;
+    }
+
 -- each end with its cause: there is no script, and nothing was written and the link not called; or
 -- a client with that script joined the server over the link, and ended so
 pub data JoinsFiles {L : Type 0} (state : L → LinkState) (leads : L → L → Type 0) (end : Status)

@@ -2,6 +2,7 @@
 
 use super::*;
 use crate::idle_hub::IdleHub;
+use crate::idle_link::IdleLink;
 use config_text::ConfigKind;
 use share_base::{MemoryFiles, MemorySink, MemorySource, OutOfMemory};
 use std::alloc::Global;
@@ -234,12 +235,13 @@ fn words_name_one_file(rt: HostRuntime) -> Result<(), Fail> {
         let mut input = MemorySource::new(rt.alloc(), &[], &[])?;
         let mut out = MemorySink::new(rt.alloc(), 1000, &[])?;
         let mut hub = IdleHub::new(false);
+        let mut link = IdleLink::new();
         let ended = run(
             rt.alloc(),
             &given,
             &mut files,
             &mut input,
-            &mut hub,
+            &mut hub, &mut link,
             &mut out,
         );
         assert_eq!(rt; ended, status);

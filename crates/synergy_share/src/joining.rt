@@ -3,7 +3,8 @@
 ghost use Rattle.std.specs.Prelude.{◌≡◌};
 ghost use Rattle.synergy_share.specs.Causes.{FileCauses};
 ghost use Rattle.synergy_share.specs.Checking.{OverCounts};
-ghost use Rattle.synergy_share.specs.Joining.{JoinsFiles, LetsGo, LinkFaults, status_of_client};
+ghost use Rattle.synergy_share.specs.Joining.{JoinsFiles, LetsGo, LinkFaults};
+ghost use Rattle.synergy_share.specs.Joining.{to_join, status_of_client};
 
 use crate::status::Status;
 use crate::texts::read_client_script;
@@ -53,15 +54,7 @@ pub fn run_join<F: Files, L: Link, K: Sink>(
     out: &mut K,
 ) -> Status
     ensures joins { JoinsFiles L.state L.leads result
-        (record {
-          host = host.now;
-          port = port;
-          name = name;
-          w = w;
-          h = h;
-          script = F.told files.old script.now;
-          turns = turns;
-        })
+        (to_join (F.told files.old) name host.now port w h script.now turns)
         (F.calls files.old) (F.calls files.new) link.old link.new (K.state out.old)
         (K.state out.new) }
     ensures released { LetsGo result (K.state out.old) (K.state out.new) }

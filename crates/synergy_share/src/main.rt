@@ -12,8 +12,12 @@ mod commands;
 #[cfg(test)]
 mod generate_tests;
 mod generating;
+#[cfg(test)]
 mod idle_hub;
+#[cfg(test)]
+mod idle_link;
 mod inject_core;
+mod joining;
 mod laws;
 mod line_core;
 mod real;
@@ -34,8 +38,10 @@ pub use checking::run_check;
 pub use command_words::{Command, form};
 pub use commands::{run_inject, run_show};
 pub use generating::run_generate;
+pub use joining::run_join;
 pub use laws::{both_ends, file_decides, one_end, refusals_name_lines};
 pub use line_core::LineCore;
+use mio_sockets::{MioHub, MioLink};
 pub use real::{StdFiles, StdSink, StdSource};
 pub use replaying::run_replay;
 pub use serving::run_serve;
@@ -63,7 +69,8 @@ fn words_of(rt: &HostRuntime) -> Result<Vec<String>, Status> {
 fn main(rt: HostRuntime) -> ExitCode {
     let mut files = StdFiles::new(&rt, rt.alloc());
     let mut input = StdSource::new(rt.stdin());
-    let mut hub = idle_hub::IdleHub::new(false);
+    let mut hub = MioHub::new(&rt, rt.alloc());
+    let mut link = MioLink::new(&rt, rt.alloc());
     let mut out = StdSink::new(rt.stdout());
     let status = match words_of(&rt) {
         Ok(words) => run(
@@ -72,6 +79,7 @@ fn main(rt: HostRuntime) -> ExitCode {
             &mut files,
             &mut input,
             &mut hub,
+            &mut link,
             &mut out,
         ),
         Err(status) => status,

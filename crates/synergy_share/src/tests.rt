@@ -1,5 +1,6 @@
 use super::*;
 use crate::idle_hub::IdleHub;
+use crate::idle_link::IdleLink;
 use client_core::{LostCause, Which};
 use message_codec::End;
 use share_base::{MemoryFiles, MemorySink, MemorySource, OutOfMemory, Reason};
@@ -310,12 +311,13 @@ fn words_name_a_command_or_none(rt: HostRuntime) -> Result<(), Fail> {
         let words = vec![in rt.alloc(); String::from_str(rt.alloc(), word)?]?;
         let mut files = MemoryFiles::new(rt.alloc(), &[])?;
         let mut hub = IdleHub::new(false);
+        let mut link = IdleLink::new();
         let ended = run(
             rt.alloc(),
             &words,
             &mut files,
             &mut input,
-            &mut hub,
+            &mut hub, &mut link,
             &mut out,
         );
         assert_eq!(rt; ended, status);
@@ -331,12 +333,13 @@ fn words_name_a_command_or_none(rt: HostRuntime) -> Result<(), Fail> {
         let words = vec![in rt.alloc(); show, String::from_str(rt.alloc(), word)?]?;
         let mut files = MemoryFiles::new(rt.alloc(), &[])?;
         let mut hub = IdleHub::new(false);
+        let mut link = IdleLink::new();
         let ended = run(
             rt.alloc(),
             &words,
             &mut files,
             &mut input,
-            &mut hub,
+            &mut hub, &mut link,
             &mut out,
         );
         assert_eq!(rt; ended, status);

@@ -1,11 +1,13 @@
 use Rattle.command_words.specs.declared.command.Command.{Command}
-use Rattle.command_words.specs.Forms.{Check, Replay, Serve, Names, form_of}
+use Rattle.command_words.specs.Forms.{Check, Replay, Serve, Join, Generate, Names, form_of}
 use Rattle.std.specs.Prelude.{ℕ, List}
 use Rattle.std.proofs.Common.{subst}
 use Rattle.synergy_share.specs.Replaying.{Replays, given_by}
 use Rattle.synergy_share.specs.Headline.{SharesIfRun}
 use Rattle.synergy_share.specs.Serving.{ServesFiles, to_serve}
-use Rattle.synergy_share.proofs.SameWords.{same_replay, same_serve}
+use Rattle.synergy_share.specs.Joining.{JoinsFiles, to_join}
+use Rattle.synergy_share.specs.Generating.{Generates}
+use Rattle.synergy_share.proofs.SameWords.{same_replay, same_serve, same_join, same_generate}
 use Rattle.synergy_share.proofs.top.run.Goals as goal
 
 pub returns-in-None-clause-checks : goal.returns-in-None-clause-checks
@@ -74,3 +76,49 @@ returns-in-Some-Serve-clause-serves g c config script port turns names =
     (subst (λ (x : List ℕ). ServesFiles state leads end (to_serve told r.config.now x port turns) calls calls' hub hub' out out') same.1
     (subst (λ (x : ℕ). ServesFiles state leads end (to_serve told r.config.now r.script.now x turns) calls calls' hub hub' out out') same.2
     (subst (λ (x : ℕ). ServesFiles state leads end (to_serve told r.config.now r.script.now r.port x) calls calls' hub hub' out out') same.3 c.run_serve.ensures.serves)))
+
+pub returns-in-None-clause-joins : goal.returns-in-None-clause-joins
+returns-in-None-clause-joins g c name host port w h script turns names = absurd (c.in-None.ensures.none (Join name host port w h script turns) names)
+
+pub returns-in-None-clause-join_released : goal.returns-in-None-clause-join_released
+returns-in-None-clause-join_released g c name host port w h script turns names = absurd (c.in-None.ensures.none (Join name host port w h script turns) names)
+
+pub returns-in-None-clause-join_overs : goal.returns-in-None-clause-join_overs
+returns-in-None-clause-join_overs g c name host port w h script turns names = absurd (c.in-None.ensures.none (Join name host port w h script turns) names)
+
+pub returns-in-None-clause-link_faults : goal.returns-in-None-clause-link_faults
+returns-in-None-clause-link_faults g c name host port w h script turns names = absurd (c.in-None.ensures.none (Join name host port w h script turns) names)
+
+pub returns-in-None-clause-generates : goal.returns-in-None-clause-generates
+returns-in-None-clause-generates g c n names = absurd (c.in-None.ensures.none (Generate n) names)
+
+pub returns-in-Some-Join-clause-joins : goal.returns-in-Some-Join-clause-joins
+returns-in-Some-Join-clause-joins g c name host port w h script turns names =
+    let r = c.in-Some-Join in
+    let told = g.F.Files.told c.args.files.now in
+    let named = subst (λ (x : Command). Names (form_of x) c.args.words.now) r.field-0-is r.ensures.named in
+    let same = same_join c.args.words.now r.name r.host.now r.port r.w r.h r.script.now r.turns name host port w h script turns named names in
+    let calls = g.F.Files.calls c.args.files.now in
+    let calls' = g.F.Files.calls c.run_join.new.files in
+    let out = g.K.Sink.state c.args.out.now in
+    let out' = g.K.Sink.state c.run_join.new.out in
+    let link = c.args.link.now in
+    let link' = c.run_join.new.link in
+    let state = g.L.Link.state in
+    let leads = g.L.Link.leads in
+    let end = c.run_join.result in
+    subst (λ (x : List ℕ). JoinsFiles state leads end (to_join told x host port w h script turns) calls calls' link link' out out') same.0
+    (subst (λ (x : List ℕ). JoinsFiles state leads end (to_join told r.name x port w h script turns) calls calls' link link' out out') same.1
+    (subst (λ (x : ℕ). JoinsFiles state leads end (to_join told r.name r.host.now x w h script turns) calls calls' link link' out out') same.2
+    (subst (λ (x : ℕ). JoinsFiles state leads end (to_join told r.name r.host.now r.port x h script turns) calls calls' link link' out out') same.3
+    (subst (λ (x : ℕ). JoinsFiles state leads end (to_join told r.name r.host.now r.port r.w x script turns) calls calls' link link' out out') same.4
+    (subst (λ (x : List ℕ). JoinsFiles state leads end (to_join told r.name r.host.now r.port r.w r.h x turns) calls calls' link link' out out') same.5
+    (subst (λ (x : ℕ). JoinsFiles state leads end (to_join told r.name r.host.now r.port r.w r.h r.script.now x) calls calls' link link' out out') same.6 c.run_join.ensures.joins))))))
+
+pub returns-in-Some-Generate-clause-generates : goal.returns-in-Some-Generate-clause-generates
+returns-in-Some-Generate-clause-generates g c n names =
+    let r = c.in-Some-Generate in
+    let named = subst (λ (x : Command). Names (form_of x) c.args.words.now) r.field-0-is r.ensures.named in
+    let out = g.K.Sink.state c.args.out.now in
+    let out' = g.K.Sink.state c.run_generate.new.out in
+    subst (λ (x : ℕ). Generates c.run_generate.result x out out') (same_generate c.args.words.now r.field-0-field-0 n named names) c.run_generate.ensures.generates
