@@ -1,0 +1,3 @@
+pub mod ReportedMarks
+pub mod KeptCounts
+pub mod ClosedSerials
