@@ -1,6 +1,6 @@
 //! A listener, and the set of sockets that are watched with it.
 
-ghost use Rattle.std.specs.Prelude.{◌≡◌, ◌≤◌, [], map, OnOk, OnErr};
+ghost use Rattle.std.specs.Prelude.{◌≡◌, ◌≤◌, [], true, map, OnOk, OnErr};
 ghost use Rattle.mio.specs.Events.{items, capacity as events_capacity};
 ghost use Rattle.mio_sockets.specs.Marks.{mark_of};
 

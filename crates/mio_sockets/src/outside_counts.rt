@@ -1,7 +1,7 @@
 //! The two counts of a hub or a link.
 
 ghost use Rattle.std.specs.Prelude.{◌≡◌};
-ghost use Rattle.share_base.specs.Counts.{one_more};
+ghost use Rattle.share_base.specs.Counts.{one_more, Rises};
 
 /// How often the object itself failed, and how often one of its connections did. Each count stops at
 /// its last value.
@@ -24,14 +24,16 @@ impl OutsideCounts {
 
     /// Counts a failure of the object itself.
     pub(crate) fn add_fault(&mut self)
-        ensures { self.new ≡ record self.old { faults = one_more self.old.faults } }
+        ensures value { self.new ≡ record self.old { faults = one_more self.old.faults } }
+        ensures rises { Rises self.old.faults self.new.faults }
     {
         self.faults = self.faults.saturating_add(1);
     }
 
     /// Counts a failure of one connection.
     pub(crate) fn add_break(&mut self)
-        ensures { self.new ≡ record self.old { breaks = one_more self.old.breaks } }
+        ensures value { self.new ≡ record self.old { breaks = one_more self.old.breaks } }
+        ensures rises { Rises self.old.breaks self.new.breaks }
     {
         self.breaks = self.breaks.saturating_add(1);
     }

@@ -6,14 +6,14 @@ use crate::stopwatch::Stopwatch;
 use crate::streams::{read_some, write_some};
 use crate::*;
 use hub_acts::{
-    AcceptAnswer, CallFault, Hub, Link, LinkWaited, MOST_MARKS, Mark, ReadAnswer, ReadyList, Waited,
-    WriteAnswer,
+    AcceptAnswer, CallFault, Hub, Link, LinkWaited, MOST_MARKS, Mark, ReadAnswer, ReadyList,
+    Waited, WriteAnswer,
 };
+use std::io;
 use std::io::{Error, ErrorKind, Read, Write};
 use std::net::{Ipv4Addr, Shutdown, SocketAddr, TcpListener, TcpStream};
 use std::test::*;
 use std::time::{Clock, Duration, Instant};
-use std::io;
 
 /// Listens at a free port, and returns it.
 fn listen(hub: &mut MioHub<&HostRuntime>) -> Result<u16, Fail> {
