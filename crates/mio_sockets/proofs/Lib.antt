@@ -1,3 +1,2 @@
 pub mod ReportedMarks
-pub mod KeptCounts
 pub mod ClosedSerials

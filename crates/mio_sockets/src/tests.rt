@@ -1,12 +1,12 @@
 //! The hub and the link, over sockets of this machine.
 
-ghost use Rattle.std.specs.Prelude.{◌≤◌, IfOk};
+ghost use Rattle.std.specs.Prelude.{◌≤◌, ◌<◌, length, IfOk};
 
 use crate::stopwatch::Stopwatch;
 use crate::streams::{read_some, write_some};
 use crate::*;
 use hub_acts::{
-    AcceptAnswer, CallFault, Hub, Link, LinkWaited, MOST_MARKS, Mark, ReadAnswer, ReadyList,
+    AcceptAnswer, Hub, Link, LinkWaited, MOST_MARKS, Mark, ReadAnswer, ReadyList,
     Waited, WriteAnswer,
 };
 use std::io;
@@ -15,9 +15,67 @@ use std::net::{Ipv4Addr, Shutdown, SocketAddr, TcpListener, TcpStream};
 use std::test::*;
 use std::time::{Clock, Duration, Instant};
 
+type TestHub<'a> = MioHub<&'a HostRuntime>;
+
+type TestLink<'a> = MioLink<&'a HostRuntime>;
+
+// The calls without what they ensure, which the tests don't need.
+
+fn listens(hub: &mut TestHub<'_>, port: u16) -> bool {
+    hub.listen(port).is_ok()
+}
+
+fn accepts(hub: &mut TestHub<'_>) -> AcceptAnswer {
+    hub.accept()
+}
+
+fn waits(hub: &mut TestHub<'_>, ms: u32, ready: &mut ReadyList) -> Waited {
+    hub.wait_at_most(ms, ready)
+}
+
+fn reads(hub: &mut TestHub<'_>, serial: u64, buf: &mut [u8]) -> ReadAnswer
+    requires { 0 < length buf.old }
+{
+    hub.read_from(serial, buf)
+}
+
+fn writes(hub: &mut TestHub<'_>, serial: u64, bytes: &[u8]) -> WriteAnswer
+    requires { 0 < length bytes.now }
+{
+    hub.write_to(serial, bytes)
+}
+
+fn closes(hub: &mut TestHub<'_>, serial: u64) -> bool {
+    hub.close_stream(serial).is_ok()
+}
+
+fn connects(link: &mut TestLink<'_>, host: &str, port: u16) -> bool {
+    link.connect(host, port).is_ok()
+}
+
+fn link_waits(link: &mut TestLink<'_>) -> LinkWaited {
+    link.wait(1000)
+}
+
+fn link_reads(link: &mut TestLink<'_>, buf: &mut [u8]) -> ReadAnswer
+    requires { 0 < length buf.old }
+{
+    link.read(buf)
+}
+
+fn link_writes(link: &mut TestLink<'_>, bytes: &[u8]) -> WriteAnswer
+    requires { 0 < length bytes.now }
+{
+    link.write(bytes)
+}
+
+fn link_closes(link: &mut TestLink<'_>) -> bool {
+    link.close().is_ok()
+}
+
 /// Listens at a free port, and returns it.
-fn listen(hub: &mut MioHub<&HostRuntime>) -> Result<u16, Fail> {
-    if hub.listen(0).is_err() {
+fn listen(hub: &mut TestHub<'_>) -> Result<u16, Fail> {
+    if !listens(hub, 0) {
         return Err(Fail::new("listen"));
     }
     match hub.port() {
@@ -31,10 +89,10 @@ fn connect(rt: &HostRuntime, port: u16) -> io::Result<TcpStream> {
 }
 
 /// Whether a mark that passes the test comes within about twenty seconds.
-fn reports(hub: &mut MioHub<&HostRuntime>, wanted: Mark) -> bool {
+fn reports(hub: &mut TestHub<'_>, wanted: Mark) -> bool {
     let mut ready = ReadyList::new();
     for _ in 0..20 {
-        if hub.wait_at_most(1000, &mut ready) != Waited::Ready {
+        if waits(hub, 1000, &mut ready) != Waited::Ready {
             return false;
         }
         if ready.as_slice().iter().any(|mark| fits(*mark, wanted)) {
@@ -73,9 +131,9 @@ fn readable(serial: u64) -> Mark {
 }
 
 /// Whether the link has something to read within about twenty seconds.
-fn has_bytes(link: &mut MioLink<&HostRuntime>) -> bool {
+fn has_bytes(link: &mut TestLink<'_>) -> bool {
     for _ in 0..20 {
-        match link.wait(1000) {
+        match link_waits(link) {
             LinkWaited::Ready { readable: true, .. } => return true,
             LinkWaited::Ready { .. } => {}
             _ => return false,
@@ -90,31 +148,31 @@ fn bytes_go_both_ways_and_end(rt: HostRuntime) -> Result<(), Fail> {
     let port = listen(&mut hub)?;
     let mut link = MioLink::new(&rt, rt.alloc());
     let mut buf = [0; 4];
-    assert_eq!(rt; hub.accept(), AcceptAnswer::NotNow);
-    assert_eq!(rt; link.connect("localhost", port), Ok(()));
+    assert_eq!(rt; accepts(&mut hub), AcceptAnswer::NotNow);
+    assert!(rt; connects(&mut link, "localhost", port));
     assert!(rt; reports(&mut hub, Mark::Accept));
-    assert_eq!(rt; hub.accept(), AcceptAnswer::New(1));
-    assert_eq!(rt; hub.accept(), AcceptAnswer::NotNow);
-    assert_eq!(rt; hub.read_from(1, &mut buf), ReadAnswer::NotNow);
-    assert_eq!(rt; link.write(b"abcdef"), WriteAnswer::Took(6));
+    assert_eq!(rt; accepts(&mut hub), AcceptAnswer::New(1));
+    assert_eq!(rt; accepts(&mut hub), AcceptAnswer::NotNow);
+    assert_eq!(rt; reads(&mut hub, 1, &mut buf), ReadAnswer::NotNow);
+    assert_eq!(rt; link_writes(&mut link, b"abcdef"), WriteAnswer::Took(6));
     assert!(rt; reports(&mut hub, readable(1)));
-    assert_eq!(rt; hub.read_from(1, &mut buf), ReadAnswer::Got(4));
+    assert_eq!(rt; reads(&mut hub, 1, &mut buf), ReadAnswer::Got(4));
     assert_eq!(rt; buf, *b"abcd");
-    assert_eq!(rt; hub.read_from(1, &mut buf), ReadAnswer::Got(2));
+    assert_eq!(rt; reads(&mut hub, 1, &mut buf), ReadAnswer::Got(2));
     assert_eq!(rt; buf, *b"efcd");
-    assert_eq!(rt; hub.read_from(1, &mut buf), ReadAnswer::NotNow);
-    assert_eq!(rt; link.read(&mut buf), ReadAnswer::NotNow);
-    assert_eq!(rt; hub.write_to(1, b"xyz"), WriteAnswer::Took(3));
+    assert_eq!(rt; reads(&mut hub, 1, &mut buf), ReadAnswer::NotNow);
+    assert_eq!(rt; link_reads(&mut link, &mut buf), ReadAnswer::NotNow);
+    assert_eq!(rt; writes(&mut hub, 1, b"xyz"), WriteAnswer::Took(3));
     assert!(rt; has_bytes(&mut link));
-    assert_eq!(rt; link.read(&mut buf), ReadAnswer::Got(3));
-    assert_eq!(rt; link.read(&mut buf), ReadAnswer::NotNow);
-    assert_eq!(rt; link.close(), Ok(()));
+    assert_eq!(rt; link_reads(&mut link, &mut buf), ReadAnswer::Got(3));
+    assert_eq!(rt; link_reads(&mut link, &mut buf), ReadAnswer::NotNow);
+    assert!(rt; link_closes(&mut link));
     assert!(rt; reports(&mut hub, readable(1)));
-    assert_eq!(rt; hub.read_from(1, &mut buf), ReadAnswer::End);
-    assert_eq!(rt; hub.close_stream(1), Ok(()));
-    assert_eq!(rt; link.connect("127.0.0.1", port), Ok(()));
+    assert_eq!(rt; reads(&mut hub, 1, &mut buf), ReadAnswer::End);
+    assert!(rt; closes(&mut hub, 1));
+    assert!(rt; connects(&mut link, "127.0.0.1", port));
     assert!(rt; reports(&mut hub, Mark::Accept));
-    assert_eq!(rt; hub.accept(), AcceptAnswer::New(2));
+    assert_eq!(rt; accepts(&mut hub), AcceptAnswer::New(2));
     assert_eq!(rt; (hub.counts(), link.counts()), ((0, 0), (0, 0)));
     Ok(())
 }
@@ -127,27 +185,27 @@ fn a_peer_breaks_its_own_connection_alone(rt: HostRuntime) -> Result<(), Fail> {
     let mut second = connect(&rt, port)?;
     let mut buf = [0; 4];
     assert!(rt; reports(&mut hub, Mark::Accept));
-    assert_eq!(rt; hub.accept(), AcceptAnswer::New(1));
-    assert_eq!(rt; hub.accept(), AcceptAnswer::New(2));
+    assert_eq!(rt; accepts(&mut hub), AcceptAnswer::New(1));
+    assert_eq!(rt; accepts(&mut hub), AcceptAnswer::New(2));
 
     // A socket that is closed with a byte unread resets the connection.
-    assert_eq!(rt; hub.write_to(1, b"unread"), WriteAnswer::Took(6));
+    assert_eq!(rt; writes(&mut hub, 1, b"unread"), WriteAnswer::Took(6));
     drop(first);
     assert!(rt; reports(&mut hub, readable(1)));
-    assert_eq!(rt; hub.read_from(1, &mut buf), ReadAnswer::Failed);
+    assert_eq!(rt; reads(&mut hub, 1, &mut buf), ReadAnswer::Failed);
     assert_eq!(rt; hub.counts(), (0, 1));
-    assert_eq!(rt; hub.write_to(1, b"x"), WriteAnswer::Failed);
+    assert_eq!(rt; writes(&mut hub, 1, b"x"), WriteAnswer::Failed);
     assert_eq!(rt; hub.counts(), (0, 2));
 
     // The other one sends, then sends no more, and still gets what is written.
     second.write_all(b"ok")?;
     assert!(rt; reports(&mut hub, readable(2)));
-    assert_eq!(rt; hub.read_from(2, &mut buf), ReadAnswer::Got(2));
+    assert_eq!(rt; reads(&mut hub, 2, &mut buf), ReadAnswer::Got(2));
     second.shutdown(Shutdown::Write)?;
     assert!(rt; reports(&mut hub, readable(2)));
-    assert_eq!(rt; hub.read_from(2, &mut buf), ReadAnswer::End);
-    assert_eq!(rt; hub.write_to(2, b"bye"), WriteAnswer::Took(3));
-    assert_eq!(rt; hub.close_stream(2), Ok(()));
+    assert_eq!(rt; reads(&mut hub, 2, &mut buf), ReadAnswer::End);
+    assert_eq!(rt; writes(&mut hub, 2, b"bye"), WriteAnswer::Took(3));
+    assert!(rt; closes(&mut hub, 2));
     assert_eq!(rt; second.read(&mut buf)?, 3);
     assert_eq!(rt; second.read(&mut buf)?, 0);
     Ok(())
@@ -160,11 +218,11 @@ fn bytes_that_were_written_outlive_a_close(rt: HostRuntime) -> Result<(), Fail> 
     let mut peer = connect(&rt, port)?;
     let mut buf = [0; 4];
     assert!(rt; reports(&mut hub, Mark::Accept));
-    assert_eq!(rt; hub.accept(), AcceptAnswer::New(1));
+    assert_eq!(rt; accepts(&mut hub), AcceptAnswer::New(1));
     peer.write_all(b"nobody reads this")?;
     assert!(rt; reports(&mut hub, readable(1)));
-    assert_eq!(rt; hub.write_to(1, b"bye"), WriteAnswer::Took(3));
-    assert_eq!(rt; hub.close_stream(1), Ok(()));
+    assert_eq!(rt; writes(&mut hub, 1, b"bye"), WriteAnswer::Took(3));
+    assert!(rt; closes(&mut hub, 1));
     assert_eq!(rt; peer.read(&mut buf)?, 3);
     assert_eq!(rt; peer.read(&mut buf)?, 0);
     Ok(())
@@ -178,10 +236,10 @@ fn a_full_stream_takes_more_once_it_is_read(rt: HostRuntime) -> Result<(), Fail>
     let mut buf = [7; 4096];
     let mut written = 0u64;
     assert!(rt; reports(&mut hub, Mark::Accept));
-    assert_eq!(rt; hub.accept(), AcceptAnswer::New(1));
+    assert_eq!(rt; accepts(&mut hub), AcceptAnswer::New(1));
     let mut last = WriteAnswer::NotNow;
     for _ in 0..1_000_000 {
-        last = hub.write_to(1, &buf);
+        last = writes(&mut hub, 1, &buf);
         match last {
             WriteAnswer::Took(n) => written = written.saturating_add(n as u64),
             _ => break,
@@ -189,8 +247,8 @@ fn a_full_stream_takes_more_once_it_is_read(rt: HostRuntime) -> Result<(), Fail>
     }
     assert_eq!(rt; last, WriteAnswer::NotNow);
     let mut ready = ReadyList::new();
-    assert_eq!(rt; hub.wait_at_most(0, &mut ready), Waited::Ready);
-    assert_eq!(rt; hub.wait_at_most(0, &mut ready), Waited::Ready);
+    assert_eq!(rt; waits(&mut hub, 0, &mut ready), Waited::Ready);
+    assert_eq!(rt; waits(&mut hub, 0, &mut ready), Waited::Ready);
     assert_eq!(rt; ready.as_slice().len(), 0);
     let mut read = 0u64;
     for _ in 0..1_000_000 {
@@ -206,7 +264,7 @@ fn a_full_stream_takes_more_once_it_is_read(rt: HostRuntime) -> Result<(), Fail>
         writable: true,
     };
     assert!(rt; reports(&mut hub, writable));
-    assert_eq!(rt; hub.write_to(1, b"x"), WriteAnswer::Took(1));
+    assert_eq!(rt; writes(&mut hub, 1, b"x"), WriteAnswer::Took(1));
     Ok(())
 }
 
@@ -216,28 +274,28 @@ fn what_cannot_be_had_is_a_fault(rt: HostRuntime) -> Result<(), Fail> {
     let port = listen(&mut hub)?;
     let mut second = MioHub::new(&rt, rt.alloc());
     let mut ready = ReadyList::new();
-    assert_eq!(rt; second.listen(port), Err(CallFault::Failed));
+    assert!(rt; !listens(&mut second, port));
     assert_eq!(rt; second.counts(), (1, 0));
-    assert_eq!(rt; second.wait_at_most(0, &mut ready), Waited::Failed);
-    assert_eq!(rt; second.accept(), AcceptAnswer::NotNow);
+    assert_eq!(rt; waits(&mut second, 0, &mut ready), Waited::Failed);
+    assert_eq!(rt; accepts(&mut second), AcceptAnswer::NotNow);
     assert_eq!(rt; second.counts(), (2, 0));
-    assert_eq!(rt; second.read_from(1, &mut [0]), ReadAnswer::Failed);
-    assert_eq!(rt; second.write_to(1, &[0]), WriteAnswer::Failed);
+    assert_eq!(rt; reads(&mut second, 1, &mut [0]), ReadAnswer::Failed);
+    assert_eq!(rt; writes(&mut second, 1, &[0]), WriteAnswer::Failed);
     assert_eq!(rt; second.counts(), (2, 2));
-    assert_eq!(rt; second.listen(0), Ok(()));
-    assert_eq!(rt; second.listen(0), Err(CallFault::Failed));
+    assert!(rt; listens(&mut second, 0));
+    assert!(rt; !listens(&mut second, 0));
 
     let nobody = TcpListener::bind(&rt, SocketAddr::from((Ipv4Addr::LOCALHOST, 0)))?
         .local_addr()?
         .port();
     let mut link = MioLink::new(&rt, rt.alloc());
-    assert_eq!(rt; link.connect("127.0.0.1", nobody), Err(CallFault::Failed));
-    assert_eq!(rt; link.connect("\0", port), Err(CallFault::Failed));
-    assert_eq!(rt; link.wait(0), LinkWaited::Failed);
+    assert!(rt; !connects(&mut link, "127.0.0.1", nobody));
+    assert!(rt; !connects(&mut link, "\0", port));
+    assert_eq!(rt; link_waits(&mut link), LinkWaited::Failed);
     assert_eq!(rt; link.counts(), (3, 0));
-    assert_eq!(rt; link.read(&mut [0]), ReadAnswer::Failed);
-    assert_eq!(rt; link.write(&[0]), WriteAnswer::Failed);
-    assert_eq!(rt; link.close(), Ok(()));
+    assert_eq!(rt; link_reads(&mut link, &mut [0]), ReadAnswer::Failed);
+    assert_eq!(rt; link_writes(&mut link, &[0]), WriteAnswer::Failed);
+    assert!(rt; link_closes(&mut link));
     assert_eq!(rt; link.counts(), (3, 2));
     Ok(())
 }
@@ -262,32 +320,32 @@ fn more_marks_than_fit_come_with_the_next_wait(rt: HostRuntime) -> Result<(), Fa
         peers.push(connect(&rt, port)?)?;
     }
     for serial in 1..129 {
-        assert_eq!(rt; hub.accept(), AcceptAnswer::New(serial));
+        assert_eq!(rt; accepts(&mut hub), AcceptAnswer::New(serial));
     }
-    assert_eq!(rt; hub.accept(), AcceptAnswer::NotNow);
+    assert_eq!(rt; accepts(&mut hub), AcceptAnswer::NotNow);
 
     // The listener and 128 streams have something to tell, each once.
     let mut ready = ReadyList::new();
     let mut seen = [0; 130];
-    assert_eq!(rt; hub.wait_at_most(1000, &mut ready), Waited::Ready);
+    assert_eq!(rt; waits(&mut hub, 1000, &mut ready), Waited::Ready);
     assert_eq!(rt; ready.as_slice().len(), MOST_MARKS);
     count_marks(&ready, &mut seen);
-    assert_eq!(rt; hub.wait_at_most(1000, &mut ready), Waited::Ready);
+    assert_eq!(rt; waits(&mut hub, 1000, &mut ready), Waited::Ready);
     assert_eq!(rt; ready.as_slice().len(), 1);
     count_marks(&ready, &mut seen);
     assert!(rt; seen[..129].iter().all(|times| *times == 1));
 
     // A wait that finds nothing takes its time.
     let start = Instant::now(&rt)?;
-    assert_eq!(rt; hub.wait_at_most(50, &mut ready), Waited::Ready);
+    assert_eq!(rt; waits(&mut hub, 50, &mut ready), Waited::Ready);
     assert_eq!(rt; ready.as_slice().len(), 0);
     assert!(rt; start.elapsed(&rt)? >= Duration::from_millis(50));
 
     // The one that had no room is reported again, and accepted once there is some.
-    assert_eq!(rt; hub.close_stream(5), Ok(()));
+    assert!(rt; closes(&mut hub, 5));
     assert!(rt; reports(&mut hub, Mark::Accept));
-    assert_eq!(rt; hub.accept(), AcceptAnswer::New(129));
-    assert_eq!(rt; hub.accept(), AcceptAnswer::NotNow);
+    assert_eq!(rt; accepts(&mut hub), AcceptAnswer::New(129));
+    assert_eq!(rt; accepts(&mut hub), AcceptAnswer::NotNow);
     assert_eq!(rt; hub.counts(), (0, 0));
     Ok(())
 }

@@ -12,7 +12,7 @@ push-requires c =
 
 pub loop-event-preserved : goal.loop-event-preserved
 loop-event-preserved c =
-    report-more mark_of c.in-Some.event.now c.mark_of.result c.loop-event.ready c.push.new.ready (iter_rest c.loop-event.event-iterator) (iter_rest c.next.new.self) (map mark_of (items c.args.events.now))
+    report-more mark_of c.in-Some.event.now c.mark_of.result c.loop-event.ready c.push.new.self (iter_rest c.loop-event.event-iterator) (iter_rest c.next.new.self) (map mark_of (items c.args.events.now))
     c.in-Some.ensures.steps c.mark_of.ensures c.push.ensures c.loop-event.invariant
 
 pub returns : goal.returns

@@ -1,4 +1,4 @@
-use Rattle.std.proofs.Common.{◌≡◌, ◌∙◌, refl, ap, ℕ, not, map, rules}
+use Rattle.std.proofs.Common.{◌∙◌, refl, ap, ℕ, not, map, rules}
 use Rattle.std.specs.Prelude.{◌==◌}
 use Rattle.std.proofs.lemmas.Fn.{filter_same}
 use Rattle.mio_sockets.specs.declared.mio_hub.Connection.{Connection}
