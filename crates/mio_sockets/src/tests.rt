@@ -6,8 +6,8 @@ use crate::stopwatch::Stopwatch;
 use crate::streams::{read_some, write_some};
 use crate::*;
 use hub_acts::{
-    AcceptAnswer, Hub, Link, LinkWaited, MOST_MARKS, Mark, ReadAnswer, ReadyList,
-    Waited, WriteAnswer,
+    AcceptAnswer, Hub, Link, LinkWaited, MOST_MARKS, Mark, ReadAnswer, ReadyList, Waited,
+    WriteAnswer,
 };
 use std::io;
 use std::io::{Error, ErrorKind, Read, Write};
@@ -142,33 +142,74 @@ fn has_bytes(link: &mut TestLink<'_>) -> bool {
     false
 }
 
+/// Connects the link to the hub, which accepts it as 1.
+fn meet(hub: &mut TestHub<'_>, link: &mut TestLink<'_>) -> Result<u16, Fail> {
+    let port = listen(hub)?;
+    if connects(link, "localhost", port)
+        && reports(hub, Mark::Accept)
+        && accepts(hub) == AcceptAnswer::New(1)
+    {
+        Ok(port)
+    } else {
+        Err(Fail::new("meet"))
+    }
+}
+
+/// Connects a peer to the hub, which accepts it under that serial.
+fn join(
+    rt: &HostRuntime,
+    hub: &mut TestHub<'_>,
+    port: u16,
+    serial: u64,
+) -> Result<TcpStream, Fail> {
+    let peer = connect(rt, port)?;
+    if reports(hub, Mark::Accept) && accepts(hub) == AcceptAnswer::New(serial) {
+        Ok(peer)
+    } else {
+        Err(Fail::new("join"))
+    }
+}
+
 #[test]
-fn bytes_go_both_ways_and_end(rt: HostRuntime) -> Result<(), Fail> {
+fn the_hub_reads_in_pieces(rt: HostRuntime) -> Result<(), Fail> {
     let mut hub = MioHub::new(&rt, rt.alloc());
-    let port = listen(&mut hub)?;
     let mut link = MioLink::new(&rt, rt.alloc());
     let mut buf = [0; 4];
+    meet(&mut hub, &mut link)?;
     assert_eq!(rt; accepts(&mut hub), AcceptAnswer::NotNow);
-    assert!(rt; connects(&mut link, "localhost", port));
-    assert!(rt; reports(&mut hub, Mark::Accept));
-    assert_eq!(rt; accepts(&mut hub), AcceptAnswer::New(1));
-    assert_eq!(rt; accepts(&mut hub), AcceptAnswer::NotNow);
-    assert_eq!(rt; reads(&mut hub, 1, &mut buf), ReadAnswer::NotNow);
     assert_eq!(rt; link_writes(&mut link, b"abcdef"), WriteAnswer::Took(6));
     assert!(rt; reports(&mut hub, readable(1)));
     assert_eq!(rt; reads(&mut hub, 1, &mut buf), ReadAnswer::Got(4));
-    assert_eq!(rt; buf, *b"abcd");
     assert_eq!(rt; reads(&mut hub, 1, &mut buf), ReadAnswer::Got(2));
     assert_eq!(rt; buf, *b"efcd");
     assert_eq!(rt; reads(&mut hub, 1, &mut buf), ReadAnswer::NotNow);
+    Ok(())
+}
+
+#[test]
+fn the_link_reads_in_pieces(rt: HostRuntime) -> Result<(), Fail> {
+    let mut hub = MioHub::new(&rt, rt.alloc());
+    let mut link = MioLink::new(&rt, rt.alloc());
+    let mut buf = [0; 4];
+    meet(&mut hub, &mut link)?;
     assert_eq!(rt; link_reads(&mut link, &mut buf), ReadAnswer::NotNow);
-    assert_eq!(rt; writes(&mut hub, 1, b"xyz"), WriteAnswer::Took(3));
+    assert_eq!(rt; writes(&mut hub, 1, b"abcdef"), WriteAnswer::Took(6));
     assert!(rt; has_bytes(&mut link));
-    assert_eq!(rt; link_reads(&mut link, &mut buf), ReadAnswer::Got(3));
+    assert_eq!(rt; link_reads(&mut link, &mut buf), ReadAnswer::Got(4));
+    assert_eq!(rt; link_reads(&mut link, &mut buf), ReadAnswer::Got(2));
+    assert_eq!(rt; buf, *b"efcd");
     assert_eq!(rt; link_reads(&mut link, &mut buf), ReadAnswer::NotNow);
+    Ok(())
+}
+
+#[test]
+fn a_closed_link_ends_and_its_serial_is_not_given_again(rt: HostRuntime) -> Result<(), Fail> {
+    let mut hub = MioHub::new(&rt, rt.alloc());
+    let mut link = MioLink::new(&rt, rt.alloc());
+    let port = meet(&mut hub, &mut link)?;
     assert!(rt; link_closes(&mut link));
     assert!(rt; reports(&mut hub, readable(1)));
-    assert_eq!(rt; reads(&mut hub, 1, &mut buf), ReadAnswer::End);
+    assert_eq!(rt; reads(&mut hub, 1, &mut [0]), ReadAnswer::End);
     assert!(rt; closes(&mut hub, 1));
     assert!(rt; connects(&mut link, "127.0.0.1", port));
     assert!(rt; reports(&mut hub, Mark::Accept));
@@ -178,36 +219,37 @@ fn bytes_go_both_ways_and_end(rt: HostRuntime) -> Result<(), Fail> {
 }
 
 #[test]
-fn a_peer_breaks_its_own_connection_alone(rt: HostRuntime) -> Result<(), Fail> {
+fn a_reset_breaks_one_connection_alone(rt: HostRuntime) -> Result<(), Fail> {
     let mut hub = MioHub::new(&rt, rt.alloc());
     let port = listen(&mut hub)?;
-    let first = connect(&rt, port)?;
-    let mut second = connect(&rt, port)?;
-    let mut buf = [0; 4];
-    assert!(rt; reports(&mut hub, Mark::Accept));
-    assert_eq!(rt; accepts(&mut hub), AcceptAnswer::New(1));
-    assert_eq!(rt; accepts(&mut hub), AcceptAnswer::New(2));
-
+    let first = join(&rt, &mut hub, port, 1)?;
+    let mut second = join(&rt, &mut hub, port, 2)?;
     // A socket that is closed with a byte unread resets the connection.
     assert_eq!(rt; writes(&mut hub, 1, b"unread"), WriteAnswer::Took(6));
     drop(first);
     assert!(rt; reports(&mut hub, readable(1)));
-    assert_eq!(rt; reads(&mut hub, 1, &mut buf), ReadAnswer::Failed);
-    assert_eq!(rt; hub.counts(), (0, 1));
+    assert_eq!(rt; reads(&mut hub, 1, &mut [0]), ReadAnswer::Failed);
     assert_eq!(rt; writes(&mut hub, 1, b"x"), WriteAnswer::Failed);
     assert_eq!(rt; hub.counts(), (0, 2));
+    second.write_all(b"k")?;
+    assert!(rt; reports(&mut hub, readable(2)));
+    assert_eq!(rt; reads(&mut hub, 2, &mut [0]), ReadAnswer::Got(1));
+    Ok(())
+}
 
-    // The other one sends, then sends no more, and still gets what is written.
-    second.write_all(b"ok")?;
-    assert!(rt; reports(&mut hub, readable(2)));
-    assert_eq!(rt; reads(&mut hub, 2, &mut buf), ReadAnswer::Got(2));
-    second.shutdown(Shutdown::Write)?;
-    assert!(rt; reports(&mut hub, readable(2)));
-    assert_eq!(rt; reads(&mut hub, 2, &mut buf), ReadAnswer::End);
-    assert_eq!(rt; writes(&mut hub, 2, b"bye"), WriteAnswer::Took(3));
-    assert!(rt; closes(&mut hub, 2));
-    assert_eq!(rt; second.read(&mut buf)?, 3);
-    assert_eq!(rt; second.read(&mut buf)?, 0);
+#[test]
+fn a_peer_that_sends_no_more_still_gets_bytes(rt: HostRuntime) -> Result<(), Fail> {
+    let mut hub = MioHub::new(&rt, rt.alloc());
+    let port = listen(&mut hub)?;
+    let mut peer = join(&rt, &mut hub, port, 1)?;
+    peer.shutdown(Shutdown::Write)?;
+    assert!(rt; reports(&mut hub, readable(1)));
+    assert_eq!(rt; reads(&mut hub, 1, &mut [0]), ReadAnswer::End);
+    assert_eq!(rt; writes(&mut hub, 1, b"bye"), WriteAnswer::Took(3));
+    assert!(rt; closes(&mut hub, 1));
+    let mut buf = [0; 4];
+    assert_eq!(rt; peer.read(&mut buf)?, 3);
+    assert_eq!(rt; peer.read(&mut buf)?, 0);
     Ok(())
 }
 
@@ -215,10 +257,8 @@ fn a_peer_breaks_its_own_connection_alone(rt: HostRuntime) -> Result<(), Fail> {
 fn bytes_that_were_written_outlive_a_close(rt: HostRuntime) -> Result<(), Fail> {
     let mut hub = MioHub::new(&rt, rt.alloc());
     let port = listen(&mut hub)?;
-    let mut peer = connect(&rt, port)?;
+    let mut peer = join(&rt, &mut hub, port, 1)?;
     let mut buf = [0; 4];
-    assert!(rt; reports(&mut hub, Mark::Accept));
-    assert_eq!(rt; accepts(&mut hub), AcceptAnswer::New(1));
     peer.write_all(b"nobody reads this")?;
     assert!(rt; reports(&mut hub, readable(1)));
     assert_eq!(rt; writes(&mut hub, 1, b"bye"), WriteAnswer::Took(3));
@@ -232,11 +272,9 @@ fn bytes_that_were_written_outlive_a_close(rt: HostRuntime) -> Result<(), Fail> 
 fn a_full_stream_takes_more_once_it_is_read(rt: HostRuntime) -> Result<(), Fail> {
     let mut hub = MioHub::new(&rt, rt.alloc());
     let port = listen(&mut hub)?;
-    let mut peer = connect(&rt, port)?;
+    let mut peer = join(&rt, &mut hub, port, 1)?;
     let mut buf = [7; 4096];
     let mut written = 0u64;
-    assert!(rt; reports(&mut hub, Mark::Accept));
-    assert_eq!(rt; accepts(&mut hub), AcceptAnswer::New(1));
     let mut last = WriteAnswer::NotNow;
     for _ in 0..1_000_000 {
         last = writes(&mut hub, 1, &buf);
@@ -269,7 +307,7 @@ fn a_full_stream_takes_more_once_it_is_read(rt: HostRuntime) -> Result<(), Fail>
 }
 
 #[test]
-fn what_cannot_be_had_is_a_fault(rt: HostRuntime) -> Result<(), Fail> {
+fn a_used_port_is_a_fault(rt: HostRuntime) -> Result<(), Fail> {
     let mut hub = MioHub::new(&rt, rt.alloc());
     let port = listen(&mut hub)?;
     let mut second = MioHub::new(&rt, rt.alloc());
@@ -284,13 +322,17 @@ fn what_cannot_be_had_is_a_fault(rt: HostRuntime) -> Result<(), Fail> {
     assert_eq!(rt; second.counts(), (2, 2));
     assert!(rt; listens(&mut second, 0));
     assert!(rt; !listens(&mut second, 0));
+    Ok(())
+}
 
+#[test]
+fn a_link_that_nobody_accepts_is_a_fault(rt: HostRuntime) -> Result<(), Fail> {
     let nobody = TcpListener::bind(&rt, SocketAddr::from((Ipv4Addr::LOCALHOST, 0)))?
         .local_addr()?
         .port();
     let mut link = MioLink::new(&rt, rt.alloc());
     assert!(rt; !connects(&mut link, "127.0.0.1", nobody));
-    assert!(rt; !connects(&mut link, "\0", port));
+    assert!(rt; !connects(&mut link, "\0", nobody));
     assert_eq!(rt; link_waits(&mut link), LinkWaited::Failed);
     assert_eq!(rt; link.counts(), (3, 0));
     assert_eq!(rt; link_reads(&mut link, &mut [0]), ReadAnswer::Failed);
