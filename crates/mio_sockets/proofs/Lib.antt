@@ -1,0 +1,2 @@
+pub mod ReportedMarks
+pub mod ClosedSerials
