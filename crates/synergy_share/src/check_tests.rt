@@ -241,7 +241,8 @@ fn words_name_one_file(rt: HostRuntime) -> Result<(), Fail> {
             &given,
             &mut files,
             &mut input,
-            &mut hub, &mut link,
+            &mut hub,
+            &mut link,
             &mut out,
         );
         assert_eq!(rt; ended, status);

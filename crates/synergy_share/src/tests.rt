@@ -317,7 +317,8 @@ fn words_name_a_command_or_none(rt: HostRuntime) -> Result<(), Fail> {
             &words,
             &mut files,
             &mut input,
-            &mut hub, &mut link,
+            &mut hub,
+            &mut link,
             &mut out,
         );
         assert_eq!(rt; ended, status);
@@ -339,7 +340,8 @@ fn words_name_a_command_or_none(rt: HostRuntime) -> Result<(), Fail> {
             &words,
             &mut files,
             &mut input,
-            &mut hub, &mut link,
+            &mut hub,
+            &mut link,
             &mut out,
         );
         assert_eq!(rt; ended, status);

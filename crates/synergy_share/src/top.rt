@@ -134,7 +134,9 @@ pub fn run<F: Files, S: Source, H: Hub, L: Link, K: Sink>(
                 script,
                 turns,
             },
-        ) => run_join(alloc, name, host, port, w, h, script, turns, files, link, out),
+        ) => run_join(
+            alloc, name, host, port, w, h, script, turns, files, link, out,
+        ),
         Some(Command::Generate(n)) => run_generate(alloc, n, out),
         None => Status::Usage,
     }

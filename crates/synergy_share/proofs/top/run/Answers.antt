@@ -60,6 +60,7 @@ returns-in-Some-Replay-clause-headline g c config script trace names =
     subst (λ (x : List ℕ). SharesIfRun end (given_by told x script trace) out out') same.0
     (subst (λ (x : List ℕ). SharesIfRun end (given_by told r.config.now x trace) out out') same.1
     (subst (λ (x : List ℕ). SharesIfRun end (given_by told r.config.now r.script.now x) out out') same.2 c.run_replay.ensures.headline))
+
 pub returns-in-Some-Serve-clause-serves : goal.returns-in-Some-Serve-clause-serves
 returns-in-Some-Serve-clause-serves g c config script port turns names =
     let r = c.in-Some-Serve in
