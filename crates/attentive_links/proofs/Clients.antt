@@ -76,26 +76,26 @@ passes-own moment c h = passes-keeps (λ d. IsOwn d.done) own_kept moment c h
 
 -- ---- it joins, and so it has a conversation
 
-abbrev pub Joins : Option Talk → Type 0
-Joins None = ⊥
-Joins (Some t) = Unit {0}
+abbrev pub HasTalk : Option Talk → Type 0
+HasTalk None = ⊥
+HasTalk (Some t) = Unit {0}
 
-joins_on : (m : Msg) (talk : Option Talk) → Joins talk → Joins (option_map (hears m) talk)
+joins_on : (m : Msg) (talk : Option Talk) → HasTalk talk → HasTalk (option_map (hears m) talk)
 joins_on m None h = h
 joins_on m (Some t) h = tt
 
-joins_kept : Keeps (λ c. Joins c.talk)
+joins_kept : Keeps (λ c. HasTalk c.talk)
 joins_kept = record {
   hears_one = λ m c h. joins_on m c.talk h;
   ends = λ e c own h. h;
   clock = λ t c is moment h. tt;
 }
 
-pub got-joins : (piece : List ℕ) (c : Client) → Joins c.talk → Joins (got piece c).talk
-got-joins piece c h = got-keeps (λ d. Joins d.talk) joins_kept piece c h h
+pub got-joins : (piece : List ℕ) (c : Client) → HasTalk c.talk → HasTalk (got piece c).talk
+got-joins piece c h = got-keeps (λ d. HasTalk d.talk) joins_kept piece c h h
 
-pub passes-joins : (moment : ℕ) (c : Client) → Joins c.talk → Joins (passes moment c).talk
-passes-joins moment c h = passes-keeps (λ d. Joins d.talk) joins_kept moment c h
+pub passes-joins : (moment : ℕ) (c : Client) → HasTalk c.talk → HasTalk (passes moment c).talk
+passes-joins moment c h = passes-keeps (λ d. HasTalk d.talk) joins_kept moment c h
 
-pub hears-joins : (piece : List ℕ) (ms : List Msg) (c : Client) → Joins c.talk → Joins (hear_all (fed piece c) ms).talk
-hears-joins piece ms c h = hear-all-keeps (λ d. Joins d.talk) joins_kept ms (fed piece c) h
+pub hears-joins : (piece : List ℕ) (ms : List Msg) (c : Client) → HasTalk c.talk → HasTalk (hear_all (fed piece c) ms).talk
+hears-joins piece ms c h = hear-all-keeps (λ d. HasTalk d.talk) joins_kept ms (fed piece c) h

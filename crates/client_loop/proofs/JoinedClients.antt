@@ -13,18 +13,18 @@ use Rattle.client_core.specs.Happenings.{passes, took, untaken, untaken_of, due_
 use Rattle.client_core.specs.Kept as kept
 use Rattle.client_core.specs.Kept.{Stands, Follows, StopsAt, ClearsLines, EndsReleased, out_of_memory, lines_in}
 use Rattle.attentive_links.specs.Judging as judging
-use Rattle.attentive_links.proofs.Clients.{Joins, got-joins, passes-joins, hears-joins}
+use Rattle.attentive_links.proofs.Clients.{HasTalk, got-joins, passes-joins, hears-joins}
 use Rattle.client_loop.specs.Attendants.{StandsJoined, Reads, Prints, Becomes, Clears, Gets, Passes, MayGet, MayTake, Releases}
 
-joins_by : (talk : Option Talk) → Joins talk → (t : Talk) × (talk ≡ Some t)
+joins_by : (talk : Option Talk) → HasTalk talk → (t : Talk) × (talk ≡ Some t)
 joins_by None h = absurd h
 joins_by (Some t) h = (t, refl)
 
-joined : (core : ClientCore) (front : List ℕ) (c : Client) → Stands core c front → Joins c.talk → StandsJoined core front c
+joined : (core : ClientCore) (front : List ℕ) (c : Client) → Stands core c front → HasTalk c.talk → StandsJoined core front c
 joined core front c stood joins = let t = joins_by c.talk joins in record { stands = stood; talk = t.0; joins = t.1 }
 
-joins_of : (core : ClientCore) (front : List ℕ) (c : Client) → StandsJoined core front c → Joins c.talk
-joins_of core front c s = subst Joins (sym s.joins) tt
+joins_of : (core : ClientCore) (front : List ℕ) (c : Client) → StandsJoined core front c → HasTalk c.talk
+joins_of core front c s = subst HasTalk (sym s.joins) tt
 
 -- ---- bytes
 

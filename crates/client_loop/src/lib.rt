@@ -2,9 +2,9 @@
 //! the client has queued, and writes the client's lines to a sink.
 //!
 //! It owns the loop, what it asks of a client (`specs/Attendants.antt`), how far a run has come
-//! (`specs/Stages.antt`), how it ends (`specs/Ends.antt`) and what it makes of its link and its
-//! sink (`specs/Attending.antt`). It may know links, sinks, clients and which act is due: no frame,
-//! no message, and not how a client works.
+//! (`specs/Stages.antt`), how it ends (`specs/Ends.antt`), what it makes of its link and its sink
+//! (`specs/Attending.antt`), and joining a server by such a run (`specs/Joining.antt`). It may know
+//! links, sinks, clients and which act is due: no frame, no message, and not how a client works.
 #![tactic(auto)]
 
 mod attendant;
