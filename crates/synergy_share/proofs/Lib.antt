@@ -11,3 +11,4 @@ pub mod Adapters
 pub mod Headline
 pub mod Generated
 pub mod ServerEnds
+pub mod ServingHeadline

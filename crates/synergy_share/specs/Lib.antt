@@ -9,6 +9,7 @@ pub mod Texts
 pub mod Replaying
 pub mod Headline
 pub mod Serving
+pub mod ServingHeadline
 pub mod Causes
 pub mod Statuses
 pub mod Words

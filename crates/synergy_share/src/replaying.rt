@@ -30,7 +30,7 @@ pub(crate) fn status_of(end: ServeEnd) -> Status
 }
 
 /// Does nothing. Its contract says what every script keeps.
-fn assure_script(script: &Script)
+pub(crate) fn assure_script(script: &Script)
     ensures { IsScript script.now }
 {
     let _ = script.w();

@@ -6,9 +6,10 @@ ghost use Rattle.engine_loop.specs.Serving.{IsNewHub};
 ghost use Rattle.synergy_share.specs.Causes.{FileCauses, HubFaults};
 ghost use Rattle.synergy_share.specs.Checking.{OverCounts};
 ghost use Rattle.synergy_share.specs.Serving.{ServesFiles, to_serve};
+ghost use Rattle.synergy_share.specs.ServingHeadline.{SharesIfServed};
 
 use crate::checking::read_config;
-use crate::replaying::status_of;
+use crate::replaying::{assure_script, status_of};
 use crate::status::Status;
 use crate::texts::read_script;
 use config_text::Config;
@@ -42,6 +43,9 @@ pub fn run_serve<F: Files, H: Hub, K: Sink>(
         (to_serve (F.told files.old) config.now script.now port turns)
         (F.calls files.old) (F.calls files.new) hub.old hub.new
         (K.state out.old) (K.state out.new) }
+    ensures headline { SharesIfServed H.state result
+        (to_serve (F.told files.old) config.now script.now port turns)
+        hub.old hub.new (K.state out.old) (K.state out.new) }
     ensures overs { OverCounts result (F.overs files.old) (F.overs files.new) }
     ensures causes { FileCauses result (F.faults files.old) (F.faults files.new) (K.state out.old)
         (K.state out.new) }
@@ -55,5 +59,7 @@ pub fn run_serve<F: Files, H: Hub, K: Sink>(
         Ok(script) => script,
         Err(end) => return end,
     };
+    config.assure_sound();
+    assure_script(&script);
     status_of(serve_on(alloc, config, script, port, turns as u64, hub, out))
 }

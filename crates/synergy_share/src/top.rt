@@ -14,6 +14,7 @@ ghost use Rattle.synergy_share.specs.Serving.{ServesFiles, to_serve};
 ghost use Rattle.synergy_share.specs.Joining.{JoinsFiles, LetsGo, LinkFaults, to_join};
 ghost use Rattle.synergy_share.specs.Generating.{Generates};
 ghost use Rattle.synergy_share.specs.Causes.{AllCauses, HubFaults};
+ghost use Rattle.synergy_share.specs.ServingHeadline.{SharesIfServed};
 
 use crate::checking::run_check;
 use crate::commands::{run_inject, run_show};
@@ -72,6 +73,11 @@ pub fn run<F: Files, S: Source, H: Hub, L: Link, K: Sink>(
         (to_serve (F.told files.old) config script port turns)
         (F.calls files.old) (F.calls files.new) hub.old hub.new
         (K.state out.old) (K.state out.new) }
+    ensures serve_headline { (config script : List ℕ) (port turns : ℕ)
+        → Names (Serve config script port turns) words.now
+        → SharesIfServed H.state result
+        (to_serve (F.told files.old) config script port turns)
+        hub.old hub.new (K.state out.old) (K.state out.new) }
     ensures serve_overs { (config script : List ℕ) (port turns : ℕ)
         → Names (Serve config script port turns) words.now
         → OverCounts result (F.overs files.old) (F.overs files.new) }

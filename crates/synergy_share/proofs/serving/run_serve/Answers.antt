@@ -1,8 +1,12 @@
 use Rattle.std.specs.Prelude.{ℕ, List, Option}
-use Rattle.std.proofs.Common.{refl, ap, subst, ◌∙◌}
+use Rattle.std.proofs.Common.{refl, ap, sym, subst, ◌∙◌, inr}
 use Rattle.share_base.specs.Counts.{one_more}
 use Rattle.synergy_share.specs.Texts.{HasScript, NoScript}
-use Rattle.synergy_share.specs.Serving.{no_config, no_script, served}
+use Rattle.synergy_share.specs.declared.status.Status.{Status}
+use Rattle.synergy_share.specs.Serving.{ToServe, to_serve, no_config, no_script, served}
+use Rattle.synergy_share.specs.ServingHeadline.{SharesIfServed}
+use Rattle.synergy_share.proofs.Headline.{no-config-run, no-script-run}
+use Rattle.synergy_share.proofs.ServingHeadline.{not-served, shares-served}
 use Rattle.synergy_share.proofs.ServerEnds.{unheard_config, unheard_script, hub_of_end, causes_of_end}
 use Rattle.synergy_share.proofs.serving.run_serve.Goals as goal
 
@@ -32,3 +36,21 @@ returns-clause-causes g c =
 pub returns-clause-hub_faults : goal.returns-clause-hub_faults
 returns-clause-hub_faults g c =
     hub_of_end c.serve_on.result c.status_of.result _ _ c.status_of.ensures c.serve_on.ensures.hub_faults
+
+pub returns-in-Err-clause-headline : goal.returns-in-Err-clause-headline
+returns-in-Err-clause-headline g c = inr (not-served c.in-Err.end (no-config-run c.in-Err.end _ c.in-Err.ensures.reads), refl)
+
+pub returns-in-Err-read_script-clause-headline : goal.returns-in-Err-read_script-clause-headline
+returns-in-Err-read_script-clause-headline g c =
+    inr (not-served c.in-Err-read_script.end (no-script-run c.in-Ok.config c.in-Err-read_script.end _ c.in-Err-read_script.ensures.reads), refl)
+
+pub returns-clause-headline : goal.returns-clause-headline
+returns-clause-headline g c =
+    let given : ToServe = to_serve (g.F.Files.told c.args.files.now) c.args.config.now c.args.script.now c.args.port c.args.turns in
+    let old = g.K.Sink.state c.args.out.now in
+    let new = g.K.Sink.state c.serve_on.new.out in
+    subst (λ (end : Status). SharesIfServed g.H.Hub.state end given c.args.hub.now c.serve_on.new.hub old new) (sym c.status_of.ensures)
+    (shares-served g.H.Hub.state g.H.Hub.leads given c.in-Ok.config c.in-Ok-read_script.script c.serve_on.result c.args.hub.now c.serve_on.new.hub old new
+    c.assure_sound.ensures c.assure_script.ensures c.in-Ok.ensures.reads
+    (subst (λ (told : Option (List ℕ)). HasScript c.in-Ok.config told c.in-Ok-read_script.script) (c.read_config.ensures.once.kept c.args.script.now) c.in-Ok-read_script.ensures.reads)
+    c.serve_on.ensures.serves)

@@ -5,6 +5,7 @@ use Rattle.std.proofs.Common.{subst}
 use Rattle.synergy_share.specs.Replaying.{Replays, given_by}
 use Rattle.synergy_share.specs.Headline.{SharesIfRun}
 use Rattle.synergy_share.specs.Serving.{ServesFiles, to_serve}
+use Rattle.synergy_share.specs.ServingHeadline.{SharesIfServed}
 use Rattle.synergy_share.specs.Joining.{JoinsFiles, to_join}
 use Rattle.synergy_share.specs.Generating.{Generates}
 use Rattle.synergy_share.proofs.SameWords.{same_replay, same_serve, same_join, same_generate}
@@ -123,3 +124,23 @@ returns-in-Some-Generate-clause-generates g c n names =
     let out = g.K.Sink.state c.args.out.now in
     let out' = g.K.Sink.state c.run_generate.new.out in
     subst (λ (x : ℕ). Generates c.run_generate.result x out out') (same_generate c.args.words.now r.field-0-field-0 n named names) c.run_generate.ensures.generates
+
+pub returns-in-None-clause-serve_headline : goal.returns-in-None-clause-serve_headline
+returns-in-None-clause-serve_headline g c config script port turns names = absurd (c.in-None.ensures.none (Serve config script port turns) names)
+
+pub returns-in-Some-Serve-clause-serve_headline : goal.returns-in-Some-Serve-clause-serve_headline
+returns-in-Some-Serve-clause-serve_headline g c config script port turns names =
+    let r = c.in-Some-Serve in
+    let told = g.F.Files.told c.args.files.now in
+    let named = subst (λ (x : Command). Names (form_of x) c.args.words.now) r.field-0-is r.ensures.named in
+    let same = same_serve c.args.words.now r.config.now r.script.now r.port r.turns config script port turns named names in
+    let out = g.K.Sink.state c.args.out.now in
+    let out' = g.K.Sink.state c.run_serve.new.out in
+    let hub = c.args.hub.now in
+    let hub' = c.run_serve.new.hub in
+    let state = g.H.Hub.state in
+    let end = c.run_serve.result in
+    subst (λ (x : List ℕ). SharesIfServed state end (to_serve told x script port turns) hub hub' out out') same.0
+    (subst (λ (x : List ℕ). SharesIfServed state end (to_serve told r.config.now x port turns) hub hub' out out') same.1
+    (subst (λ (x : ℕ). SharesIfServed state end (to_serve told r.config.now r.script.now x turns) hub hub' out out') same.2
+    (subst (λ (x : ℕ). SharesIfServed state end (to_serve told r.config.now r.script.now r.port x) hub hub' out out') same.3 c.run_serve.ensures.headline)))
