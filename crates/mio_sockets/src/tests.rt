@@ -130,18 +130,6 @@ fn readable(serial: u64) -> Mark {
     }
 }
 
-/// Whether the link has something to read within about twenty seconds.
-fn has_bytes(link: &mut TestLink<'_>) -> bool {
-    for _ in 0..20 {
-        match link_waits(link) {
-            LinkWaited::Ready { readable: true, .. } => return true,
-            LinkWaited::Ready { .. } => {}
-            _ => return false,
-        }
-    }
-    false
-}
-
 /// Connects the link to the hub, which accepts it as 1.
 fn meet(hub: &mut TestHub<'_>, link: &mut TestLink<'_>) -> Result<u16, Fail> {
     let port = listen(hub)?;
@@ -187,22 +175,6 @@ fn the_hub_reads_in_pieces(rt: HostRuntime) -> Result<(), Fail> {
 }
 
 #[test]
-fn the_link_reads_in_pieces(rt: HostRuntime) -> Result<(), Fail> {
-    let mut hub = MioHub::new(&rt, rt.alloc());
-    let mut link = MioLink::new(&rt, rt.alloc());
-    let mut buf = [0; 4];
-    meet(&mut hub, &mut link)?;
-    assert_eq!(rt; link_reads(&mut link, &mut buf), ReadAnswer::NotNow);
-    assert_eq!(rt; writes(&mut hub, 1, b"abcdef"), WriteAnswer::Took(6));
-    assert!(rt; has_bytes(&mut link));
-    assert_eq!(rt; link_reads(&mut link, &mut buf), ReadAnswer::Got(4));
-    assert_eq!(rt; link_reads(&mut link, &mut buf), ReadAnswer::Got(2));
-    assert_eq!(rt; buf, *b"efcd");
-    assert_eq!(rt; link_reads(&mut link, &mut buf), ReadAnswer::NotNow);
-    Ok(())
-}
-
-#[test]
 fn a_closed_link_ends_and_its_serial_is_not_given_again(rt: HostRuntime) -> Result<(), Fail> {
     let mut hub = MioHub::new(&rt, rt.alloc());
     let mut link = MioLink::new(&rt, rt.alloc());
@@ -234,75 +206,6 @@ fn a_reset_breaks_one_connection_alone(rt: HostRuntime) -> Result<(), Fail> {
     second.write_all(b"k")?;
     assert!(rt; reports(&mut hub, readable(2)));
     assert_eq!(rt; reads(&mut hub, 2, &mut [0]), ReadAnswer::Got(1));
-    Ok(())
-}
-
-#[test]
-fn a_peer_that_sends_no_more_still_gets_bytes(rt: HostRuntime) -> Result<(), Fail> {
-    let mut hub = MioHub::new(&rt, rt.alloc());
-    let port = listen(&mut hub)?;
-    let mut peer = join(&rt, &mut hub, port, 1)?;
-    peer.shutdown(Shutdown::Write)?;
-    assert!(rt; reports(&mut hub, readable(1)));
-    assert_eq!(rt; reads(&mut hub, 1, &mut [0]), ReadAnswer::End);
-    assert_eq!(rt; writes(&mut hub, 1, b"bye"), WriteAnswer::Took(3));
-    assert!(rt; closes(&mut hub, 1));
-    let mut buf = [0; 4];
-    assert_eq!(rt; peer.read(&mut buf)?, 3);
-    assert_eq!(rt; peer.read(&mut buf)?, 0);
-    Ok(())
-}
-
-#[test]
-fn bytes_that_were_written_outlive_a_close(rt: HostRuntime) -> Result<(), Fail> {
-    let mut hub = MioHub::new(&rt, rt.alloc());
-    let port = listen(&mut hub)?;
-    let mut peer = join(&rt, &mut hub, port, 1)?;
-    let mut buf = [0; 4];
-    peer.write_all(b"nobody reads this")?;
-    assert!(rt; reports(&mut hub, readable(1)));
-    assert_eq!(rt; writes(&mut hub, 1, b"bye"), WriteAnswer::Took(3));
-    assert!(rt; closes(&mut hub, 1));
-    assert_eq!(rt; peer.read(&mut buf)?, 3);
-    assert_eq!(rt; peer.read(&mut buf)?, 0);
-    Ok(())
-}
-
-#[test]
-fn a_full_stream_takes_more_once_it_is_read(rt: HostRuntime) -> Result<(), Fail> {
-    let mut hub = MioHub::new(&rt, rt.alloc());
-    let port = listen(&mut hub)?;
-    let mut peer = join(&rt, &mut hub, port, 1)?;
-    let mut buf = [7; 4096];
-    let mut written = 0u64;
-    let mut last = WriteAnswer::NotNow;
-    for _ in 0..1_000_000 {
-        last = writes(&mut hub, 1, &buf);
-        match last {
-            WriteAnswer::Took(n) => written = written.saturating_add(n as u64),
-            _ => break,
-        }
-    }
-    assert_eq!(rt; last, WriteAnswer::NotNow);
-    let mut ready = ReadyList::new();
-    assert_eq!(rt; waits(&mut hub, 0, &mut ready), Waited::Ready);
-    assert_eq!(rt; waits(&mut hub, 0, &mut ready), Waited::Ready);
-    assert_eq!(rt; ready.as_slice().len(), 0);
-    let mut read = 0u64;
-    for _ in 0..1_000_000 {
-        if read >= written {
-            break;
-        }
-        read = read.saturating_add(peer.read(&mut buf)? as u64);
-    }
-    assert_eq!(rt; read, written);
-    let writable = Mark::Stream {
-        serial: 1,
-        readable: false,
-        writable: true,
-    };
-    assert!(rt; reports(&mut hub, writable));
-    assert_eq!(rt; writes(&mut hub, 1, b"x"), WriteAnswer::Took(1));
     Ok(())
 }
 
@@ -339,56 +242,6 @@ fn a_link_that_nobody_accepts_is_a_fault(rt: HostRuntime) -> Result<(), Fail> {
     assert_eq!(rt; link_writes(&mut link, &[0]), WriteAnswer::Failed);
     assert!(rt; link_closes(&mut link));
     assert_eq!(rt; link.counts(), (3, 2));
-    Ok(())
-}
-
-/// Counts the marks of the streams from 1 to 128, each at its serial, and of accepts at 0.
-fn count_marks(ready: &ReadyList, seen: &mut [u8; 130]) {
-    for mark in ready.as_slice() {
-        let place = match mark {
-            Mark::Accept => 0,
-            Mark::Stream { serial, .. } => (*serial).min(129) as usize,
-        };
-        seen[place] = seen[place].saturating_add(1);
-    }
-}
-
-#[test]
-fn more_marks_than_fit_come_with_the_next_wait(rt: HostRuntime) -> Result<(), Fail> {
-    let mut hub = MioHub::new(&rt, rt.alloc());
-    let port = listen(&mut hub)?;
-    let mut peers = Vec::new(rt.alloc());
-    for _ in 0..129 {
-        peers.push(connect(&rt, port)?)?;
-    }
-    for serial in 1..129 {
-        assert_eq!(rt; accepts(&mut hub), AcceptAnswer::New(serial));
-    }
-    assert_eq!(rt; accepts(&mut hub), AcceptAnswer::NotNow);
-
-    // The listener and 128 streams have something to tell, each once.
-    let mut ready = ReadyList::new();
-    let mut seen = [0; 130];
-    assert_eq!(rt; waits(&mut hub, 1000, &mut ready), Waited::Ready);
-    assert_eq!(rt; ready.as_slice().len(), MOST_MARKS);
-    count_marks(&ready, &mut seen);
-    assert_eq!(rt; waits(&mut hub, 1000, &mut ready), Waited::Ready);
-    assert_eq!(rt; ready.as_slice().len(), 1);
-    count_marks(&ready, &mut seen);
-    assert!(rt; seen[..129].iter().all(|times| *times == 1));
-
-    // A wait that finds nothing takes its time.
-    let start = Instant::now(&rt)?;
-    assert_eq!(rt; waits(&mut hub, 50, &mut ready), Waited::Ready);
-    assert_eq!(rt; ready.as_slice().len(), 0);
-    assert!(rt; start.elapsed(&rt)? >= Duration::from_millis(50));
-
-    // The one that had no room is reported again, and accepted once there is some.
-    assert!(rt; closes(&mut hub, 5));
-    assert!(rt; reports(&mut hub, Mark::Accept));
-    assert_eq!(rt; accepts(&mut hub), AcceptAnswer::New(129));
-    assert_eq!(rt; accepts(&mut hub), AcceptAnswer::NotNow);
-    assert_eq!(rt; hub.counts(), (0, 0));
     Ok(())
 }
 
