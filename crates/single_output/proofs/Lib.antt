@@ -1,0 +1,3 @@
+pub mod DueActs
+pub mod WholeRuns
+pub mod OneOutput

@@ -1,0 +1,9 @@
+//! The law that a replay of given files has one output.
+//!
+//! It owns what it means that no full chunk is queued, and the law (`specs/OneOutput.antt`). It has
+//! no program code.
+#![tactic(auto)]
+
+mod laws;
+
+pub use laws::one_output;
