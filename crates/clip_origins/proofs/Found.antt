@@ -59,12 +59,12 @@ another n serial f cs c other e =
 
 -- ---- new and closed ones
 
-pub found-appended : (n : ℕ) (d : Connection) (R : Connection → Type 0) → R d → (cs : List Connection) → ((c : Connection) → with_serial n cs ≡ Some c → R c) → (c : Connection) → with_serial n (cs ++ d ∷ []) ≡ Some c → R c
-found-appended n d R new [] h c e = by (has_serial n d) e
+pub found-appended : (n : ℕ) (d : Connection) (R : Connection → Type 0) → (has_serial n d ≡ true → R d) → (cs : List Connection) → ((c : Connection) → with_serial n cs ≡ Some c → R c) → (c : Connection) → with_serial n (cs ++ d ∷ []) ≡ Some c → R c
+found-appended n d R new [] h c e = by (has_serial n d) refl e
   where
-    by : (b : Bool) → cond b (Some d) None ≡ Some c → R c
-    by true k = subst R (some_is d c k) new
-    by false k = none_some c k
+    by : (b : Bool) → has_serial n d ≡ b → cond b (Some d) None ≡ Some c → R c
+    by true is k = subst R (some_is d c k) (new is)
+    by false is k = none_some c k
 found-appended n d R new (x ∷ cs) h c e = by (has_serial n x) h (found-appended n d R new cs) e
   where
     by : (b : Bool) → ((k : Connection) → cond b (Some x) (with_serial n cs) ≡ Some k → R k) → (((k : Connection) → with_serial n cs ≡ Some k → R k) → (k : Connection) → with_serial n (cs ++ d ∷ []) ≡ Some k → R k)

@@ -7,4 +7,5 @@ pub mod KeepingHearing
 pub mod Prefixes
 pub mod SentParts
 pub mod LongerRuns
+pub mod SentBytes
 pub mod Sources

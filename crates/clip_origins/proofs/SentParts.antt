@@ -59,7 +59,7 @@ HasHeard c = HasLast (inbox_of c.received).messages c
 abbrev pub At : ℕ → (Connection → Type 0) → Clipped
 At n R clips cs = (c : Connection) → with_serial n cs ≡ Some c → R c
 
-abbrev Lasts : (Connection → Type 0) → Type 0
+abbrev pub Lasts : (Connection → Type 0) → Type 0
 Lasts R = (c d : Connection) → IsQuiet c d → R c → R d
 
 changed-at : (n : ℕ) (R : Connection → Type 0) → Lasts R → (serial : ℕ) (f : Connection → Connection) (cs : List Connection) → SameSerial f → ((k : Connection) → with_serial serial cs ≡ Some k → IsQuiet k (f k))
@@ -74,7 +74,7 @@ changed-at n R lasts serial f cs same quiet h c e = by (serial == n) refl
         subst R (sym (w.now ∙ itself serial f cs w.was own)) (lasts w.was (f w.was) (quiet w.was own) (h w.was w.found))
     by false k = let w = was-found n serial f same cs c e in subst R (sym (w.now ∙ another n serial f cs w.was k w.found)) (h w.was w.found)
 
-at-kept : (n : ℕ) (R : Connection → Type 0) → Lasts R → IsKept (At n R)
+pub at-kept : (n : ℕ) (R : Connection → Type 0) → Lasts R → IsKept (At n R)
 at-kept n R lasts = record {
   entered = λ id screen c cs h. h;
   unknown = λ id owner seq c cs h. h;
@@ -86,15 +86,18 @@ at-kept n R lasts = record {
 sent-kept : (n : ℕ) (bytes : List ℕ) (ms : List Msg) → IsKept (At n (HasSent bytes ms))
 sent-kept n bytes ms = at-kept n (HasSent bytes ms) (λ c d q h. (q.received ∙ h.0, quiet-last ms c d q h.1))
 
+heard-lasts : Lasts HasHeard
+heard-lasts c d q h = quiet-last (inbox_of d.received).messages c d q (subst (λ (bs : List ℕ). HasLast (inbox_of bs).messages c) (sym q.received) h)
+
 heard-kept : (n : ℕ) → IsKept (At n HasHeard)
-heard-kept n = at-kept n HasHeard (λ c d q h. quiet-last (inbox_of d.received).messages c d q (subst (λ (bs : List ℕ). HasLast (inbox_of bs).messages c) (sym q.received) h))
+heard-kept n = at-kept n HasHeard heard-lasts
 
 -- a change of another connection
-other-changed : (n serial : ℕ) (f : Connection → Connection) → SameSerial f → (serial == n) ≡ false → (R : Connection → Type 0) (cs : List Connection) → ((c : Connection) → with_serial n cs ≡ Some c → R c) → (c : Connection) → with_serial n (changed serial f cs) ≡ Some c → R c
+pub other-changed : (n serial : ℕ) (f : Connection → Connection) → SameSerial f → (serial == n) ≡ false → (R : Connection → Type 0) (cs : List Connection) → ((c : Connection) → with_serial n cs ≡ Some c → R c) → (c : Connection) → with_serial n (changed serial f cs) ≡ Some c → R c
 other-changed n serial f same other R cs h c e = let w = was-found n serial f same cs c e in subst R (sym (w.now ∙ another n serial f cs w.was other w.found)) (h w.was w.found)
 
 -- and of its own
-own-changed : (n : ℕ) (f : Connection → Connection) → SameSerial f → (R S : Connection → Type 0) (cs : List Connection) → ((c : Connection) → with_serial n cs ≡ Some c → R c → S (f c)) → ((c : Connection) → with_serial n cs ≡ Some c → R c) → (c : Connection) → with_serial n (changed n f cs) ≡ Some c → S c
+pub own-changed : (n : ℕ) (f : Connection → Connection) → SameSerial f → (R S : Connection → Type 0) (cs : List Connection) → ((c : Connection) → with_serial n cs ≡ Some c → R c → S (f c)) → ((c : Connection) → with_serial n cs ≡ Some c → R c) → (c : Connection) → with_serial n (changed n f cs) ≡ Some c → S c
 own-changed n f same R S cs goes h c e = let w = was-found n n f same cs c e in subst S (sym (w.now ∙ itself n f cs w.was w.found)) (goes w.was w.found (h w.was w.found))
 
 -- ---- one more message
@@ -187,19 +190,20 @@ own-got n piece s h = when-keeps-if (On (At n HasHeard)) (lives s n) (hear_piece
         let r = judge-keeps (sent-kept n (bytes ++ piece) (old ++ added)) n (inbox_of (bytes ++ piece)) (for_each added (hear n) there) each c f in
         subst (λ (bs : List ℕ). HasLast (inbox_of bs).messages c) (sym r.0) (subst (λ (ms : List Msg). HasLast ms c) (added-messages bytes piece) r.1)
 
-other-each : (n serial : ℕ) → (serial == n) ≡ false → (ms : List Msg) (s : State) → On (At n HasHeard) s → On (At n HasHeard) (for_each ms (hear serial) s)
-other-each n serial other [] s h = h
-other-each n serial other (m ∷ ms) s h =
-    other-each n serial other ms (hear serial m s) (hear-keeps (heard-kept n) serial m s (λ p j is f g.
-    hear_part-keeps (heard-kept n) p serial (change serial (was_heard s.at) s) (λ bs at counts screens c cs k. k) (other-changed n serial (with_part p) (λ c. refl) other HasHeard (changed serial (was_heard s.at) s.connections) g)) h)
+other-each : (n : ℕ) (R : Connection → Type 0) → Lasts R → (serial : ℕ) → (serial == n) ≡ false → (ms : List Msg) (s : State) → On (At n R) s → On (At n R) (for_each ms (hear serial) s)
+other-each n R lasts serial other [] s h = h
+other-each n R lasts serial other (m ∷ ms) s h =
+    other-each n R lasts serial other ms (hear serial m s) (hear-keeps (at-kept n R lasts) serial m s (λ p j is f g.
+    hear_part-keeps (at-kept n R lasts) p serial (change serial (was_heard s.at) s) (λ bs at counts screens c cs k. k) (other-changed n serial (with_part p) (λ c. refl) other R (changed serial (was_heard s.at) s.connections) g)) h)
 
-other-got : (n serial : ℕ) → (serial == n) ≡ false → (piece : List ℕ) (s : State) → On (At n HasHeard) s → On (At n HasHeard) (got serial piece s)
-other-got n serial other piece s h = when-keeps-if (On (At n HasHeard)) (lives s serial) (hear_piece serial piece) s (λ e.
+-- a piece of another connection
+pub other-got : (n : ℕ) (R : Connection → Type 0) → Lasts R → (serial : ℕ) → (serial == n) ≡ false → (piece : List ℕ) (s : State) → On (At n R) s → On (At n R) (got serial piece s)
+other-got n R lasts serial other piece s h = when-keeps-if (On (At n R)) (lives s serial) (hear_piece serial piece) s (λ e.
     let old : Inbox = inbox_of (received_by s serial) in
     let new : Inbox = inbox_of (received_by s serial ++ piece) in
     let there : State = change serial (receives piece) s in
     let added : List Msg = drop (length old.messages) new.messages in
-    judge-keeps (heard-kept n) serial new (for_each added (hear serial) there) (other-each n serial other added there (other-changed n serial (receives piece) (λ c. refl) other HasHeard s.connections h))) h
+    judge-keeps (at-kept n R lasts) serial new (for_each added (hear serial) there) (other-each n R lasts serial other added there (other-changed n serial (receives piece) (λ c. refl) other R s.connections h))) h
 
 got-heard : (n serial : ℕ) (piece : List ℕ) (s : State) → On (At n HasHeard) s → On (At n HasHeard) (got serial piece s)
 got-heard n serial piece s h = by (serial == n) refl
@@ -208,17 +212,17 @@ got-heard n serial piece s h = by (serial == n) refl
     by true k =
         let is : serial ≡ n = same_number serial serial n (eq-eqb serial serial refl) k in
         subst (λ (m : ℕ). On (At n HasHeard) (got m piece s)) (sym is) (own-got n piece s h)
-    by false k = other-got n serial k piece s h
+    by false k = other-got n HasHeard heard-lasts serial k piece s h
 
 -- ---- every happening
 
-no-copies : (n : ℕ) (R : Connection → Type 0) (ran : List RunLine) → AllByRecursion (Copies (At n R)) ran
+pub no-copies : (n : ℕ) (R : Connection → Type 0) (ran : List RunLine) → AllByRecursion (Copies (At n R)) ran
 no-copies n R [] = tt
 no-copies n R (r ∷ ran) = (λ id bytes is screens c cs h. h, no-copies n R ran)
 
 pub step-heard : (n : ℕ) (s : State) (h : Happening) → On (At n HasHeard) s → On (At n HasHeard) (step s h)
 step-heard n s (happening.Joined serial) k =
-    let new : On (At n HasHeard) (opened serial s) = found-appended n (fresh serial s.at) HasHeard (record { early = λ e. refl; last = λ e. ([], refl) }) s.connections k in
+    let new : On (At n HasHeard) (opened serial s) = found-appended n (fresh serial s.at) HasHeard (λ is. record { early = λ e. refl; last = λ e. ([], refl) }) s.connections k in
     accept-keeps (heard-kept n) serial s new
 step-heard n s (happening.Got serial piece) k = got-heard n serial piece s k
 step-heard n s (happening.Ended serial) k = breaks-keeps (heard-kept n) cause.Ended serial s k

@@ -7,4 +7,4 @@
 
 mod laws;
 
-pub use laws::known_have_sources;
+pub use laws::{arrivals_came_with_pieces, known_have_sources};
