@@ -1,7 +1,6 @@
 -- Properties of the clipboards and the connections that the rules of the machine keep. The bytes of a clipboard become
 -- known by a copy or by a whole alone, and each of these has a premise for that.
 use Rattle.std.specs.Prelude.{◌≡◌, ℕ, Bool, true, false, ◌&&◌, List, [], ◌∷◌, map, Some}
-use Rattle.std.proofs.lemmas.Bool.{and_parts}
 use Rattle.share_base.specs.declared.clip_id.ClipId.{ClipId}
 use Rattle.share_base.specs.declared.clip_id.ClipId.TheVariants.{Clipboard, Selection}
 use Rattle.message_codec.specs.declared.messages.Msg.{Msg}
@@ -79,16 +78,16 @@ refresh_both-keeps i s h = refresh-keeps i Selection (refresh Clipboard s) (refr
 become_known-keeps : {P : Clipped} (i : IsKept P) (id : ClipId) (owner seq : ℕ) (bytes : List ℕ) (s : State) → Knows P id owner seq bytes → On P s → On P (become_known id owner seq bytes s)
 become_known-keeps i id owner seq bytes s k h = refresh-keeps i id (set_clip id (rules.known owner seq bytes (joined_screens s)) s) (k (joined_screens s) s.clips s.connections h)
 
-pub copy-keeps : {P : Clipped} (i : IsKept P) (id : ClipId) (bytes : List ℕ) (s : State) → Knows P id s.primary s.sequence bytes → On P s → On P (copy id bytes s)
+pub copy-keeps : {P : Clipped} (i : IsKept P) (id : ClipId) (bytes : List ℕ) (s : State) → ((is_sharing s && rules.copy_counts (clip_limit s) bytes) ≡ true → Knows P id s.primary s.sequence bytes) → On P s → On P (copy id bytes s)
 copy-keeps {P} i id bytes s k h = when-keeps-if (On P) (is_sharing s && rules.copy_counts (clip_limit s) bytes) (publish id bytes) s (λ e.
-    become_known-keeps i id s.primary s.sequence bytes (route_all Own (joined_clients s) (msg.Grab id 0) s) k (route_all-keeps P Own (joined_clients s) (msg.Grab id 0) s h)) h
+    become_known-keeps i id s.primary s.sequence bytes (route_all Own (joined_clients s) (msg.Grab id 0) s) (k e) (route_all-keeps P Own (joined_clients s) (msg.Grab id 0) s h)) h
 
 pub grab-keeps : {P : Clipped} (i : IsKept P) (id : ClipId) (serial seq : ℕ) (s : State) → On P s → On P (grab id serial seq s)
 grab-keeps {P} i id serial seq s h = when-keeps-if (On P) (is_sharing s && rules.grab_counts seq s.sequence (clip s id)) (take_over id serial seq) s (λ e.
     route_all-keeps P Own (all_but serial s) (msg.Grab id 0) (set_clip id (rules.unknown (screen_of s (Client serial)) seq) s) (i.unknown id (screen_of s (Client serial)) seq s.clips s.connections h)) h
 
-pub whole-keeps : {P : Clipped} (i : IsKept P) (id : ClipId) (serial seq : ℕ) (bytes : List ℕ) (s : State) → (rules.whole_counts (screen_of s (Client serial)) seq s.sequence (clip s id) ≡ true → Knows P id (screen_of s (Client serial)) seq bytes) → On P s → On P (whole id serial seq bytes s)
+pub whole-keeps : {P : Clipped} (i : IsKept P) (id : ClipId) (serial seq : ℕ) (bytes : List ℕ) (s : State) → ((is_sharing s && rules.whole_counts (screen_of s (Client serial)) seq s.sequence (clip s id)) ≡ true → Knows P id (screen_of s (Client serial)) seq bytes) → On P s → On P (whole id serial seq bytes s)
 whole-keeps {P} i id serial seq bytes s k h =
     let counts : Bool = rules.whole_counts (screen_of s (Client serial)) seq s.sequence (clip s id) in
     when-keeps-if (On P) (is_sharing s && counts) (become_known id (screen_of s (Client serial)) seq bytes) s (λ e.
-    become_known-keeps i id (screen_of s (Client serial)) seq bytes s (k (and_parts (is_sharing s) counts e).1) h) h
+    become_known-keeps i id (screen_of s (Client serial)) seq bytes s (k e) h) h

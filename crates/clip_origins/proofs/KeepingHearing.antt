@@ -1,5 +1,5 @@
 -- What messages of clients keep, and happenings.
-use Rattle.std.specs.Prelude.{◌≡◌, refl, ℕ, Bool, true, false, not, nat_le, List, [], ◌∷◌, length, Option, Some, None}
+use Rattle.std.specs.Prelude.{◌≡◌, refl, ℕ, ◌&&◌, Bool, true, false, not, nat_le, List, [], ◌∷◌, length, Option, Some, None}
 use Rattle.std.specs.Option.{option_map}
 use Rattle.std.proofs.Common.{ap, sym, ◌∙◌}
 use Rattle.share_base.specs.declared.shape.Shape.{Shape}
@@ -22,7 +22,7 @@ use Rattle.machine.specs.Combining.{when, choose, unchanged}
 use Rattle.machine.specs.Screens.{phase_of, lives, change}
 use Rattle.machine.specs.Screens as screens
 use Rattle.machine.specs.Routing.{route, logs}
-use Rattle.machine.specs.Clipboards.{clip, clips_joined, clip_limit, whole}
+use Rattle.machine.specs.Clipboards.{clip, clips_joined, clip_limit, whole, is_sharing}
 use Rattle.machine.specs.Hello.{rate, is_used, answer}
 use Rattle.machine.specs.Information.{name_of, join, clamp_cursor, reshape, hear_first_info, hear_later_info}
 use Rattle.machine.specs.Hearing.{with_part, parts_from, hear_part, hear_greeting, hear_asked, hear_joined, was_heard, hear_in, hear}
@@ -113,7 +113,7 @@ later_info-keeps i joined (Some shape) serial s h = reshape-keeps i joined shape
 abbrev pub Brings : Clipped → Part → ℕ → State → Type 0
 Brings P p serial s =
     let there : State = change serial (with_part p) s in
-    (bytes : List ℕ) → whole_at (clip_limit s) p (parts_from s serial) ≡ Some bytes → rules.whole_counts (screens.screen_of there (Client serial)) p.seq s.sequence (clip s p.clip) ≡ true
+    (bytes : List ℕ) → whole_at (clip_limit s) p (parts_from s serial) ≡ Some bytes → (is_sharing s && rules.whole_counts (screens.screen_of there (Client serial)) p.seq s.sequence (clip s p.clip)) ≡ true
     → Knows P p.clip (screens.screen_of there (Client serial)) p.seq bytes
 
 pub hear_part-keeps : {P : Clipped} (i : IsKept P) (p : Part) (serial : ℕ) (s : State) → Brings P p serial s → On P (change serial (with_part p) s) → On P (hear_part p serial s)

@@ -1,5 +1,5 @@
 -- What lines of the script and timers keep.
-use Rattle.std.specs.Prelude.{◌≡◌, refl, ℕ, nat_le, Bool, true, false, not, List, [], ◌∷◌, if◌then◌else◌}
+use Rattle.std.specs.Prelude.{◌≡◌, refl, ℕ, ◌&&◌, nat_le, Bool, true, false, not, List, [], ◌∷◌, if◌then◌else◌}
 use Rattle.std.specs.List.{AllByRecursion}
 use Rattle.std.proofs.Common.{ap, sym, ◌∙◌}
 use Rattle.share_base.specs.declared.clip_id.ClipId.{ClipId}
@@ -16,6 +16,8 @@ use Rattle.machine.specs.States.{State}
 use Rattle.machine.specs.Combining.{when, choose, unchanged}
 use Rattle.machine.specs.Screens.{connection, lives, joined_clients}
 use Rattle.machine.specs.Routing.{route_all}
+use Rattle.machine.specs.Clipboards.{is_sharing, clip_limit}
+use Rattle.clip_chunks.specs.Rules.{copy_counts}
 use Rattle.machine.specs.GateCalls.{waiting, hear_away}
 use Rattle.machine.specs.Edges.{way, edge_at_cursor}
 use Rattle.machine.specs.Crossing.{Cross, Stay, Switch, through}
@@ -39,9 +41,9 @@ quit-keeps {P} i s h = for_each-keeps (On P) (serials s.connections) say_bye (λ
 
 -- what a line that copies makes known keeps it
 abbrev pub Copies : Clipped → RunLine → Type 0
-Copies P r = (id : ClipId) (bytes : List ℕ) → r.line ≡ Copy id bytes → Knows P id r.state.primary r.state.sequence bytes
+Copies P r = (id : ClipId) (bytes : List ℕ) → r.line ≡ Copy id bytes → (is_sharing r.state && copy_counts (clip_limit r.state) bytes) ≡ true → Knows P id r.state.primary r.state.sequence bytes
 
-does-keeps : {P : Clipped} (i : IsKept P) (number : ℕ) (l : Line) (s : State) → ((id : ClipId) (bytes : List ℕ) → l ≡ Copy id bytes → Knows P id s.primary s.sequence bytes) → On P s → On P (does number l s)
+does-keeps : {P : Clipped} (i : IsKept P) (number : ℕ) (l : Line) (s : State) → ((id : ClipId) (bytes : List ℕ) → l ≡ Copy id bytes → (is_sharing s && copy_counts (clip_limit s) bytes) ≡ true → Knows P id s.primary s.sequence bytes) → On P s → On P (does number l s)
 does-keeps i number (Sleep ms) s k h = h
 does-keeps i number (Await screen) s k h = h
 does-keeps i number (KeyDown id button) s k h = event-keeps i number (KeyDown id button) s h

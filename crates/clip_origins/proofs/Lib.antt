@@ -9,3 +9,4 @@ pub mod SentParts
 pub mod LongerRuns
 pub mod SentBytes
 pub mod Sources
+mod Rows

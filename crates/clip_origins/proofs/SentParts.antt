@@ -218,7 +218,7 @@ got-heard n serial piece s h = by (serial == n) refl
 
 pub no-copies : (n : ℕ) (R : Connection → Type 0) (ran : List RunLine) → AllByRecursion (Copies (At n R)) ran
 no-copies n R [] = tt
-no-copies n R (r ∷ ran) = (λ id bytes is screens c cs h. h, no-copies n R ran)
+no-copies n R (r ∷ ran) = (λ id bytes is counts screens c cs h. h, no-copies n R ran)
 
 pub step-heard : (n : ℕ) (s : State) (h : Happening) → On (At n HasHeard) s → On (At n HasHeard) (step s h)
 step-heard n s (happening.Joined serial) k =

@@ -1,9 +1,10 @@
 -- Known bytes were copied by the script or sent by their owner.
-use Rattle.std.specs.Prelude.{◌≡◌, refl, ℕ, Bool, true, false, not, ◌&&◌, ◌==◌, nat_le, List, [], ◌∷◌, ◌++◌, length, drop, Option, Some, None, unwrap_or, if◌then◌else◌, Contains}
+use Rattle.std.specs.Prelude.{◌≡◌, refl, ℕ, ◌≤◌, Bool, true, false, not, ◌&&◌, ◌==◌, nat_le, List, [], ◌∷◌, ◌++◌, length, drop, Option, Some, None, unwrap_or, if◌then◌else◌, Contains}
 use Rattle.std.specs.List.{AllByRecursion}
 use Rattle.std.specs.Option.{option_map, option_and_then}
-use Rattle.std.proofs.Common.{ap, sym, subst, ◌∙◌, inl, inr}
+use Rattle.std.proofs.Common.{arith, ap, sym, subst, ◌∙◌, inl, inr}
 use Rattle.std.proofs.lemmas.Bool.{eqb-true, and_parts}
+use Rattle.std.proofs.lemmas.Bool.Decides.{nat_tests}
 use Rattle.std.proofs.lemmas.List.Elements.{recursion_from_All, All-weaker, All-contains_itself}
 use Rattle.share_base.specs.declared.clip_id.ClipId.{ClipId}
 use Rattle.share_base.specs.declared.clip_id.ClipId.TheVariants.{Clipboard, Selection}
@@ -20,7 +21,7 @@ use Rattle.machine.specs.Connections.{Connection, is_live}
 use Rattle.machine.specs.States.{State}
 use Rattle.machine.specs.Combining.{when, for_each}
 use Rattle.machine.specs.Screens.{connection, phase_of, lives, change, screen_of, screen_in}
-use Rattle.machine.specs.Clipboards.{clip, clip_limit}
+use Rattle.machine.specs.Clipboards.{clip, is_sharing, clip_limit}
 use Rattle.machine.specs.Partings.{screen_joined}
 use Rattle.machine.specs.Hearing.{with_part, parts_from, was_heard, hear, hear_part}
 use Rattle.machine.specs.Timers.{after_timers}
@@ -96,7 +97,10 @@ abbrev Tells : Source → Arrival → Type 0
 Tells Q a =
     (id : ClipId) (seq : ℕ) (bytes : List ℕ) → screen_joined a.state a.serial ≡ Some (clip a.state id).owner
     → wholes_among (clip_limit a.state) (a.earlier ++ a.message ∷ []) ≡ wholes_among (clip_limit a.state) a.earlier ++ record { clip = id; seq = seq; bytes = bytes } ∷ []
-    → Q id seq bytes
+    → ((clip a.state id).seq ≤ seq) × (seq ≤ a.state.sequence) → is_sharing a.state ≡ true → Q id seq bytes
+
+at-most : (m n : ℕ) → nat_le m n ≡ true → m ≤ n
+at-most m n e = grind (arith, nat_tests, e)
 
 hear-known : (Q : Source) (n : ℕ) (bytes : List ℕ) (ms : List Msg) (m : Msg) (s : State) → Tells Q (record { serial = n; earlier = ms; message = m; state = s }) → On (At n (HasSent bytes ms)) s → On (Known Q) s → On (Known Q) (hear n m s)
 hear-known Q n bytes ms m s tells sent h = hear-keeps (known-kept Q) n m s hears h
@@ -105,7 +109,7 @@ hear-known Q n bytes ms m s tells sent h = hear-keeps (known-kept Q) n m s hears
     hears p j is phase g = hear_part-keeps (known-kept Q) p n (change n (was_heard s.at) s) (λ given at counts. knows Q p.clip (screen_of (change n (with_part p) (change n (was_heard s.at) s)) (Client n)) p.seq given (by given at counts (connection s n) refl)) g
       where
         by : (given : List ℕ) → whole_at (clip_limit s) p (parts_from (change n (was_heard s.at) s) n) ≡ Some given
-            → rules.whole_counts (screen_of (change n (with_part p) (change n (was_heard s.at) s)) (Client n)) p.seq s.sequence (clip s p.clip) ≡ true
+            → (is_sharing s && rules.whole_counts (screen_of (change n (with_part p) (change n (was_heard s.at) s)) (Client n)) p.seq s.sequence (clip s p.clip)) ≡ true
             → (o : Option Connection) → connection s n ≡ o → Q p.clip p.seq given
         by given at counts None f = none_some (Joined j) (sym (ap (λ (o : Option Connection). option_map (λ (x : Connection). x.phase) o) f) ∙ phase)
         by given at counts (Some c) f =
@@ -117,12 +121,14 @@ hear-known Q n bytes ms m s tells sent h = hear-keeps (known-kept Q) n m s hears
             let kept : parts_from there n ≡ c.parts = ap (λ (o : Option Connection). unwrap_or (option_map (λ (x : Connection). x.parts) o) []) heard in
             let lives : is_live c ≡ true = ap (λ (x : Phase). not (is_parting x)) joined in
             let last = (sent c f).1.last lives in
-            let own : ((clip s p.clip).owner == screen_of after (Client n)) ≡ true = (and_parts ((clip s p.clip).owner == screen_of after (Client n)) (nat_le (clip s p.clip).seq p.seq) (and_parts ((clip s p.clip).owner == screen_of after (Client n) && nat_le (clip s p.clip).seq p.seq) (nat_le p.seq s.sequence) counts).0).0 in
-            let owner : (clip s p.clip).owner ≡ screen_of after (Client n) = eqb-true (clip s p.clip).owner (screen_of after (Client n)) own in
+            let shares = and_parts (is_sharing s) (rules.whole_counts (screen_of after (Client n)) p.seq s.sequence (clip s p.clip)) counts in
+            let upto = and_parts ((clip s p.clip).owner == screen_of after (Client n) && nat_le (clip s p.clip).seq p.seq) (nat_le p.seq s.sequence) shares.1 in
+            let from = and_parts ((clip s p.clip).owner == screen_of after (Client n)) (nat_le (clip s p.clip).seq p.seq) upto.0 in
+            let owner : (clip s p.clip).owner ≡ screen_of after (Client n) = eqb-true (clip s p.clip).owner (screen_of after (Client n)) from.0 in
             let screen : screen_of after (Client n) ≡ j.screen = ap (λ (o : Option Connection). unwrap_or (option_and_then screen_in o) s.primary) added ∙ ap (λ (x : Phase). unwrap_or (joined_screen (after_hearing_in x s.at)) s.primary) joined in
             tells p.clip p.seq given
             (ap (λ (o : Option Connection). option_and_then screen_in o) f ∙ (ap joined_screen joined ∙ ap Some (sym (owner ∙ screen))))
-            (one-more-whole (clip_limit s) given m p ms last.0 c.parts is last.1 (ap (whole_at (clip_limit s) p) (sym kept) ∙ at))
+            (one-more-whole (clip_limit s) given m p ms last.0 c.parts is last.1 (ap (whole_at (clip_limit s) p) (sym kept) ∙ at)) (at-most (clip s p.clip).seq p.seq from.1, at-most p.seq s.sequence upto.1) shares.0
 
 each-known : (Q : Source) (n : ℕ) (bytes : List ℕ) (ms messages : List Msg) (s : State) → AllByRecursion (Tells Q) (each_arrival n ms messages s) → On (At n (HasSent bytes ms)) s → On (Known Q) s → On (Known Q) (for_each messages (hear n) s)
 each-known Q n bytes ms [] s all sent h = h
@@ -178,7 +184,7 @@ none-known Q primary Selection bytes e = none_some bytes e
 pub known-have-sources : KnownHaveSources
 known-have-sources o hs latest s by id bytes e =
     let first : State = start_of o in
-    let ran = all-members (Copies (Known (HaveSource o hs))) (lines_run hs first) (λ r there copied given is. knows (HaveSource o hs) copied r.state.primary r.state.sequence given (inl (record { run = r; among = there; line = is; sequence = refl }))) in
-    let came = all-members (Tells (HaveSource o hs)) (arrivals hs first) (λ a there sent seq given owner whole. inr (record { last = a; among = there; owner = owner; whole = whole })) in
+    let ran = all-members (Copies (Known (HaveSource o hs))) (lines_run hs first) (λ r there copied given is counts. knows (HaveSource o hs) copied r.state.primary r.state.sequence given (inl (record { run = r; among = there; line = is; sequence = refl; counts = counts }))) in
+    let came = all-members (Tells (HaveSource o hs)) (arrivals hs first) (λ a there sent seq given owner whole sequence shared. inr (record { last = a; among = there; owner = owner; whole = whole; sequence = sequence; shared = shared })) in
     let all = run-known (HaveSource o hs) hs first ran came (λ n c f. none_some c f) (none-known (HaveSource o hs) o.script.primary) in
     subst (λ (t : State). On (Known (HaveSource o hs)) t) (sym by.state) all id bytes e
