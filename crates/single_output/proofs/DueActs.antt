@@ -1,5 +1,5 @@
 -- The act that is due and that the trace answers is one act.
-use Rattle.std.specs.Prelude.{◌≡◌, refl, ℕ, ◌<◌, ◌⊎◌, ◌+◌, List, [], ◌∷◌, ◌++◌, length, take, Contains, Option, Some, None}
+use Rattle.std.specs.Prelude.{◌≡◌, refl, ℕ, ◌<◌, ◌⊎◌, ◌+◌, List, [], ◌∷◌, length, take, Contains, Option, Some, None}
 use Rattle.std.proofs.Common.{ap, sym, subst, ◌∙◌, arith, inl, inr}
 use Rattle.hub_acts.specs.declared.act.Act.{Act}
 use Rattle.hub_acts.specs.declared.act.Act.TheVariants as act
@@ -40,7 +40,7 @@ whole_piece s c bytes none piece = at piece.long
     at (inr h) = absurd (none_contained _ (subst (λ (xs : List ℕ). Contains xs (taken_by s c + length bytes)) none h.1))
 
 is_due : (p : Played) (place : Place) (j : Judge) (a : Act) → ((c : ℕ) → borders j.state.routed c ≡ []) → AllowsAt place j a → a ≡ given_by p a → a ≡ due_at p place j
-  unfolding due_at close_of
+unfolding due_at close_of
 is_due p Waits j (act.Wait ms answer marks) n h g = subst (λ (m : ℕ). act.Wait ms answer marks ≡ trace_wait p m) h g
 is_due p Waits j a n h g = absurd h
 is_due p Asks j (act.Now moment) n h g = g

@@ -1,5 +1,5 @@
 -- Two replays of the same files that end well write the same.
-use Rattle.std.specs.Prelude.{◌≡◌, refl, ℕ, List, [], ◌++◌}
+use Rattle.std.specs.Prelude.{◌≡◌, ℕ, List, [], ◌++◌}
 use Rattle.std.proofs.Common.{ap, sym, subst, ◌∙◌}
 use Rattle.share_base.specs.Told.{after}
 use Rattle.share_base.specs.Writing.{SinkState}

@@ -1,5 +1,5 @@
 -- A run that ends well and its closings are one list of acts that are due.
-use Rattle.std.specs.Prelude.{◌≡◌, refl, ℕ, Bool, true, ◌&&◌, ◌==◌, List, [], ◌∷◌, ◌++◌, length}
+use Rattle.std.specs.Prelude.{◌≡◌, refl, ℕ, true, ◌==◌, List, [], ◌∷◌, ◌++◌, length}
 use Rattle.std.proofs.Common.{ap, sym, subst, ◌∙◌, arith}
 use Rattle.std.proofs.lemmas.Bool.{and_parts}
 use Rattle.std.proofs.lemmas.Bool.Decides.{nat_tests}
@@ -7,7 +7,7 @@ use Rattle.std.proofs.lemmas.List.{nil_from_length}
 use Rattle.hub_acts.specs.declared.act.Act.{Act}
 use Rattle.hub_acts.specs.declared.act.Act.TheVariants as act
 use Rattle.hub_acts.specs.declared.answers.Waited.TheVariants as waited
-use Rattle.machine.specs.Connections.{Connection, serials}
+use Rattle.machine.specs.Connections.{serials}
 use Rattle.machine.specs.States.{State}
 use Rattle.machine.specs.Readings.{is_over}
 use Rattle.attentive_acts.specs.Flags.{Flags}
@@ -17,7 +17,6 @@ use Rattle.attentive_acts.proofs.ActByAct.{judged-more}
 use Rattle.attentive_acts.proofs.SingleActs.{follows-at}
 use Rattle.engine_loop.specs.declared.serve_end.ServeEnd.{ServeEnd}
 use Rattle.engine_loop.specs.declared.serve_end.ServeEnd.TheVariants as ends
-use Rattle.engine_loop.specs.Turns.{EndsInWait}
 use Rattle.engine_loop.specs.Ends.{EndsBy}
 use Rattle.single_output.specs.OneOutput.{EndsWell}
 
