@@ -1,19 +1,16 @@
 -- What a command comes to where its client ended.
-use Rattle.std.proofs.Common.{◌≡◌, ◌≤◌, ℕ, List, [], ◌⊎◌, Option, refl, sym, ap, subst, ◌∙◌, arith, inl, inr}
-use Rattle.share_base.specs.Told.{after}
+use Rattle.std.proofs.Common.{◌≡◌, ℕ, List, [], Option, refl, sym, ap, subst, ◌∙◌, arith, inl, inr}
 use Rattle.share_base.specs.Writing.{SinkState}
 use Rattle.share_base.proofs.ToldLists.{after-nil}
-use Rattle.message_codec.specs.declared.messages.Msg.{Msg}
 use Rattle.hub_acts.specs.Links.{LinkState}
+use Rattle.held_inputs.specs.Down.{releases, held_keys, held_buttons, reach, keys_below, buttons_below}
 use Rattle.client_core.specs.declared.client_end.ClientEnd.{ClientEnd}
 use Rattle.client_core.specs.declared.client_end.ClientEnd.TheVariants as end
-use Rattle.client_core.specs.declared.client_end.LostCause.TheVariants as lost
 use Rattle.client_core.specs.Clients.{Client}
-use Rattle.client_core.specs.Kept.{Released}
 use Rattle.client_core.proofs.Screens as screens
 use Rattle.client_loop.specs.Ends.{CountsFaults}
 use Rattle.client_loop.specs.Attending.{PrintsTo}
-use Rattle.client_loop.specs.Joining.{Joins, NotBegun, Begun, EndsBefore}
+use Rattle.client_loop.specs.Joining.{Joins, EndsBefore}
 use Rattle.synergy_share.specs.declared.status.Status.{Status}
 use Rattle.synergy_share.specs.declared.status.Status.TheVariants as status
 use Rattle.synergy_share.specs.Causes.{SinkCounts, FileCauses}
@@ -23,6 +20,7 @@ use Rattle.synergy_share.specs.Joining.{status_of_client, WritesReleased, LetsGo
 -- ---- nothing was written
 
 pub none_written : (old new : SinkState) → new ≡ old → WritesReleased old new
+unfolding releases held_keys held_buttons reach keys_below buttons_below
 none_written old new same = record {
   shown = [];
   text = [];
@@ -105,18 +103,17 @@ join_counts state leads client_at host port turns e old new sink sink' (inl n) =
 join_counts state leads client_at host port turns e old new sink sink' (inr b) =
     lines_counts e b.run.last sink sink' b.run.lines
 
-file_causes : (ended : ClientEnd) (files files' out out' : ℕ) → files' ≡ files
-    → SinkCounts (status_of_client ended) out out'
-    → (sink sink' : SinkState) → sink.faults ≡ out → sink'.faults ≡ out'
+file_causes : (ended : ClientEnd) (files files' : ℕ) (sink sink' : SinkState) → files' ≡ files
+    → SinkCounts (status_of_client ended) sink.faults sink'.faults
     → FileCauses (status_of_client ended) files files' sink sink'
-file_causes end.Bye files files' out out' same counts sink sink' refl refl = (same, counts)
-file_causes (end.Refused which) files files' out out' same counts sink sink' refl refl = (same, counts)
-file_causes (end.BadPeer place why) files files' out out' same counts sink sink' refl refl = (same, counts)
-file_causes (end.Lost cause) files files' out out' same counts sink sink' refl refl = (same, counts)
-file_causes end.TurnsSpent files files' out out' same counts sink sink' refl refl = (same, counts)
-file_causes end.LinkFault files files' out out' same counts sink sink' refl refl = (same, counts)
-file_causes end.WriteFault files files' out out' same counts sink sink' refl refl = (same, counts)
-file_causes end.OutOfMemory files files' out out' same counts sink sink' refl refl = (same, counts)
+file_causes end.Bye files files' sink sink' same counts = (same, counts)
+file_causes (end.Refused which) files files' sink sink' same counts = (same, counts)
+file_causes (end.BadPeer place why) files files' sink sink' same counts = (same, counts)
+file_causes (end.Lost cause) files files' sink sink' same counts = (same, counts)
+file_causes end.TurnsSpent files files' sink sink' same counts = (same, counts)
+file_causes end.LinkFault files files' sink sink' same counts = (same, counts)
+file_causes end.WriteFault files files' sink sink' same counts = (same, counts)
+file_causes end.OutOfMemory files files' sink sink' same counts = (same, counts)
 
 pub causes_of_client : {L : Type 0} (state : L → LinkState) (leads : L → L → Type 0)
     (client_at : ℕ → Client) (host : List ℕ) (port turns : ℕ) (ended : ClientEnd) (e : Status)
@@ -125,7 +122,7 @@ pub causes_of_client : {L : Type 0} (state : L → LinkState) (leads : L → L �
     → FileCauses e files files' sink sink'
 causes_of_client state leads client_at host port turns ended e files files' old new sink sink' is same joins =
     subst (λ (s : Status). FileCauses s files files' sink sink') (sym is)
-    (file_causes ended files files' sink.faults sink'.faults same (join_counts state leads client_at host port turns ended old new sink sink' joins) sink sink' refl refl)
+    (file_causes ended files files' sink sink' same (join_counts state leads client_at host port turns ended old new sink sink' joins))
 
 -- ---- what went down went up
 

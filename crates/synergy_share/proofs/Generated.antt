@@ -1,12 +1,12 @@
 -- What becomes of the texts of a number.
-use Rattle.std.specs.Prelude.{◌≡◌, refl, ℕ, ◌-◌, ◌<◌, ◌^◌, List, [], length, Err}
-use Rattle.std.proofs.Common.{arith, ap, sym, subst, ◌∙◌}
+use Rattle.std.specs.Prelude.{◌≡◌, ℕ, ◌-◌, ◌<◌, ◌^◌, List, [], length, Err}
+use Rattle.std.proofs.Common.{arith, ap, subst}
 use Rattle.share_base.specs.Writing.{SinkState}
 use Rattle.screen_config.specs.Configurations.{Configuration}
 use Rattle.config_text.specs.declared.faults.ConfigRefusal.{ConfigRefusal}
 use Rattle.config_text.specs.Accepting.{Accepts, Refuses}
 use Rattle.config_text.specs.Lines.{refused}
-use Rattle.config_text.specs.Verdicts.{Verdict, Accepted, Refused}
+use Rattle.config_text.specs.Verdicts.{Accepted, Refused}
 use Rattle.config_text.proofs.Verdicts as config_verdicts
 use Rattle.script_screen.specs.NumberedLines.{refused_at, text_judged}
 use Rattle.script_screen.specs.Scripts.{ScriptText}

@@ -1,5 +1,5 @@
 -- The client of injection: how its calls serve a command.
-use Rattle.std.proofs.Common.{◌≡◌, ℕ, List, [], ◌∷◌, ◌++◌, length, Option, Some, None, refl, sym, ap, subst, ◌∙◌}
+use Rattle.std.proofs.Common.{◌≡◌, ℕ, List, [], ◌∷◌, ◌++◌, Option, Some, None, refl, sym, ap, subst, ◌∙◌}
 use Rattle.std.specs.List.{flat_map, AllByRecursion}
 use Rattle.std.specs.Option.{option_map}
 use Rattle.std.proofs.lemmas.Grind.{flat_map-append}
@@ -23,7 +23,7 @@ use Rattle.client_core.specs.Ends.{stop_of, IsHeard}
 use Rattle.client_core.specs.Hearing.{client, all_lines}
 use Rattle.client_core.specs.Kept.{IsPartial, ClearsLines, EndsReleased, Stands, lines_in}
 use Rattle.client_core.specs.Happenings as happenings
-use Rattle.client_core.specs.Injecting.{injected, Injects, Grows}
+use Rattle.client_core.specs.Injecting.{injected, Grows}
 use Rattle.client_core.proofs.Screens as screens
 use Rattle.client_core.proofs.Injections as injections
 use Rattle.client_core.proofs.ScreenRanges.{MessageFits, messages-fit, fit-all_lines}
@@ -31,8 +31,8 @@ use Rattle.synergy_share.specs.declared.status.Status.{Status}
 use Rattle.synergy_share.specs.declared.status.Status.TheVariants as status
 use Rattle.synergy_share.specs.declared.commands.TheConstants.{INPUT_LIMIT}
 use Rattle.synergy_share.specs.Ways.{Way, injecting}
-use Rattle.synergy_share.specs.Endings.{status_of, decided, printed_of}
-use Rattle.synergy_share.specs.Cores.{IsDone, Feeds, Clears, EndsHere, EndsInput, AddsLast}
+use Rattle.synergy_share.specs.Endings.{status_of, printed_of}
+use Rattle.synergy_share.specs.Cores.{Feeds, Clears, EndsHere, EndsInput, AddsLast}
 use Rattle.synergy_share.specs.Commands.{counted, Writes, Reads, Balances, Releases}
 use Rattle.synergy_share.specs.Injecting.{Injected, done_so}
 use Rattle.synergy_share.proofs.InputEnds.{end_for, ends_so}

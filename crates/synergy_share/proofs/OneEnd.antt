@@ -1,5 +1,5 @@
 -- The same bytes have one end.
-use Rattle.std.proofs.Common.{◌≡◌, ◌<◌, ◌≤◌, ◌⊎◌, List, ℕ, length, Option, Some, None, refl, sym, ap, subst, ◌∙◌, arith, inl, inr}
+use Rattle.std.proofs.Common.{◌≡◌, ◌<◌, ◌≤◌, ◌⊎◌, List, ℕ, length, Option, Some, None, sym, ap, subst, ◌∙◌, arith, inl, inr}
 use Rattle.std.specs.Option.{option_map, option_or}
 use Rattle.std.proofs.lemmas.Option.{same_Some}
 use Rattle.share_base.specs.declared.reason.Reason.{Reason}
@@ -8,10 +8,8 @@ use Rattle.message_codec.specs.declared.messages.Msg.{Msg}
 use Rattle.message_codec.specs.Streams.{frames_of, plain}
 use Rattle.message_codec.specs.Verdicts.{Verdict}
 use Rattle.message_codec.proofs.OneVerdict.{one_verdict}
-use Rattle.message_reader.specs.declared.reader.BadFrame.{BadFrame}
-use Rattle.message_reader.specs.Endings.{before_end, ending, Outcome, Stopped, Failed}
+use Rattle.message_reader.specs.Endings.{before_end, ending, Stopped, Failed}
 use Rattle.synergy_share.specs.declared.commands.TheConstants.{INPUT_LIMIT}
-use Rattle.client_core.specs.declared.stop.Stop.{Stop}
 use Rattle.synergy_share.specs.declared.status.Status.{Status}
 use Rattle.synergy_share.specs.declared.status.Status.TheVariants as status
 use Rattle.synergy_share.specs.Ways.{Way}

@@ -9,7 +9,7 @@ use Rattle.share_base.specs.Counts.{Rises}
 use Rattle.share_base.specs.Told.{before, after, NoneLeft, IsSet, NotSet}
 use Rattle.share_base.specs.Reading.{SourceState, ReadEnds, Reads as ReadsOne}
 use Rattle.share_base.specs.declared.source.SourceAnswer.TheVariants as answer
-use Rattle.share_base.specs.Writing.{SinkState, TakesFront, WritesAll}
+use Rattle.share_base.specs.Writing.{SinkState, TakesFront}
 use Rattle.share_base.proofs.ToldLists.{after-after, after-nil, before-before, before-nil}
 use Rattle.message_codec.specs.declared.messages.Msg.{Msg}
 use Rattle.message_codec.specs.Streams.{AreBytes, plain}
@@ -25,7 +25,7 @@ use Rattle.synergy_share.specs.declared.status.Status.TheVariants as status
 use Rattle.synergy_share.specs.Ways.{Way}
 use Rattle.synergy_share.specs.Endings.{status_by, printed_of, decided, end_at}
 use Rattle.synergy_share.specs.Cores.{IsDone, Keeps, EndsHere, Finishes}
-use Rattle.synergy_share.specs.Commands.{counted, VerdictOn, AtEnd, EndsAt, by_bytes, at_the_end, too_long, read_fault, write_fault, no_memory, IsPrinted, all_lines, Writes, Reads, Stops}
+use Rattle.synergy_share.specs.Commands.{counted, VerdictOn, AtEnd, EndsAt, by_bytes, at_the_end, write_fault, no_memory, IsPrinted, all_lines, Writes, Reads, Stops}
 use Rattle.synergy_share.specs.Causes.{Causes, SourceCounts, SinkCounts}
 
 -- ---- pieces

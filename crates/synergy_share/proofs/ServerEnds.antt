@@ -1,5 +1,5 @@
 -- What the counts of faults say of a command's status where its server ended.
-use Rattle.std.proofs.Common.{◌≡◌, ◌≤◌, ℕ, List, Option, refl, sym, subst, arith}
+use Rattle.std.proofs.Common.{◌≡◌, ℕ, List, Option, refl, sym, subst, arith}
 use Rattle.screen_config.specs.Configurations.{Configuration}
 use Rattle.share_base.specs.Writing.{SinkState}
 use Rattle.engine_loop.specs.declared.serve_end.ServeEnd.{ServeEnd}
@@ -8,7 +8,7 @@ use Rattle.engine_loop.specs.Serving.{HubCounts}
 use Rattle.hub_serving.specs.Serving.{OutputCounts}
 use Rattle.synergy_share.specs.declared.status.Status.{Status}
 use Rattle.synergy_share.specs.declared.status.Status.TheVariants as status
-use Rattle.synergy_share.specs.Causes.{FileCounts, SinkCounts, FileCauses, HubFaults}
+use Rattle.synergy_share.specs.Causes.{FileCauses, HubFaults}
 use Rattle.synergy_share.specs.Checking.{NoConfig}
 use Rattle.synergy_share.specs.Texts.{NoScript}
 use Rattle.synergy_share.specs.Replaying.{status_of_run}

@@ -1,5 +1,5 @@
 -- A run over a hub keeps the headline.
-use Rattle.std.specs.Prelude.{◌≡◌, refl, ℕ, false, List, [], ◌∷◌, ◌++◌, Option, Some, None, Ok}
+use Rattle.std.specs.Prelude.{◌≡◌, refl, false, List, [], ◌∷◌, ◌++◌, Option, Some, None, Ok}
 use Rattle.std.proofs.Common.{ap, sym, subst, ◌∙◌, inl, inr, append_assoc}
 use Rattle.share_base.specs.Writing.{SinkState}
 use Rattle.screen_config.specs.Configurations.{Configuration}
@@ -18,7 +18,6 @@ use Rattle.attentive_acts.specs.Judging.{Judge, judged, leaving}
 use Rattle.server_core.specs.Promises.{origin}
 use Rattle.server_core.proofs.Promised.{has-script-buttons}
 use Rattle.engine_loop.specs.declared.serve_end.ServeEnd.{ServeEnd}
-use Rattle.engine_loop.specs.declared.serve_end.ServeEnd.TheVariants as ends
 use Rattle.engine_loop.specs.Stages.{known_with}
 use Rattle.engine_loop.specs.Serving.{LogsTo}
 use Rattle.engine_loop.proofs.Headline.{keeps-headline}

@@ -1,7 +1,7 @@
 -- The refusal of a script or a trace names a line, from 1 on, and so is none of a file that is too big.
-use Rattle.std.proofs.Common.{◌≡◌, ℕ, zero, suc, ◌+◌, ◌<◌, Bool, true, false, nat_lt, cond, List, [], ◌∷◌, length, Result, Ok, Err, refl, ap, sym, ◌∙◌, inl, inr, arith}
+use Rattle.std.proofs.Common.{◌≡◌, ℕ, zero, suc, ◌+◌, ◌<◌, Bool, true, false, nat_lt, cond, List, [], length, Result, Ok, Err, ap, inl, inr, arith}
 use Rattle.std.specs.Str.Lines.{lines}
-use Rattle.text_lines.specs.Lines.{LineText, line_text}
+use Rattle.text_lines.specs.Lines.{line_text}
 use Rattle.text_lines.specs.LineByLine.{OffendsIn}
 use Rattle.screen_config.specs.Configurations.{Configuration}
 use Rattle.script_screen.specs.declared.kinds.TextKind.{TextKind}

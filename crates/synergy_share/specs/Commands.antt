@@ -1,6 +1,5 @@
 -- What a command writes of the bytes that it reads, how it ends, and where it stops to read.
-use Rattle.std.specs.Prelude.{◌≡◌, ◌<◌, ◌≤◌, ℕ, List, ◌++◌, length, take, Option, Some, None}
-use Rattle.std.specs.Prelude.{IfSome}
+use Rattle.std.specs.Prelude.{◌≡◌, ◌<◌, ◌≤◌, ℕ, List, ◌++◌, length, take, Some, None}
 use Rattle.std.specs.List.{flat_map, AllByRecursion}
 use Rattle.held_inputs.specs.declared.line.Line.{Line}
 use Rattle.held_inputs.specs.Line.{line_of}

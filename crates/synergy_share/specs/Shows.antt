@@ -7,7 +7,6 @@ use Rattle.message_codec.specs.declared.messages.End.{End}
 use Rattle.message_codec.specs.declared.messages.Msg.{Msg}
 use Rattle.message_codec.specs.Streams.{Reader, plain}
 use Rattle.message_reader.specs.declared.reader.BadFrame.{BadFrame}
-use Rattle.message_reader.specs.declared.role.Role.{Role}
 use Rattle.message_reader.specs.declared.role.Role.TheVariants as role
 use Rattle.message_reader.specs.Roles.{reader_of}
 use Rattle.message_reader.specs.ReaderParts.{ReaderParts}

@@ -67,6 +67,16 @@ pub fn run_join<F: Files, L: Link, K: Sink>(
         Ok(script) => script,
         Err(end) => return end,
     };
-    let turns = u64::from(turns);
-    status_of_client(join(alloc, name, host, port, w, h, script, turns, link, out))
+    status_of_client(join(
+        alloc,
+        name,
+        host,
+        port,
+        w,
+        h,
+        script,
+        turns as u64,
+        link,
+        out,
+    ))
 }

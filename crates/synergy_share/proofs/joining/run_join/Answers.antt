@@ -1,6 +1,4 @@
-use Rattle.std.specs.Prelude.{ℕ, List, Option}
-use Rattle.std.proofs.Common.{refl, ap, subst, ◌∙◌}
-use Rattle.share_base.specs.Counts.{one_more}
+use Rattle.std.proofs.Common.{refl}
 use Rattle.client_core.specs.Happenings.{joining}
 use Rattle.synergy_share.specs.Joining.{no_script, joined}
 use Rattle.synergy_share.proofs.ClientEnds.{silent_goes, unlinked, link_of_end, causes_of_client, released_of_client}

@@ -3,7 +3,7 @@ use Rattle.std.proofs.Common.{refl, ap, sym, subst, ◌∙◌, inr}
 use Rattle.share_base.specs.Counts.{one_more}
 use Rattle.synergy_share.specs.Texts.{HasScript, NoScript}
 use Rattle.synergy_share.specs.declared.status.Status.{Status}
-use Rattle.synergy_share.specs.Serving.{ToServe, to_serve, no_config, no_script, served}
+use Rattle.synergy_share.specs.Serving.{ToServe, to_serve, no_script, served}
 use Rattle.synergy_share.specs.ServingHeadline.{SharesIfServed}
 use Rattle.synergy_share.proofs.Headline.{no-config-run, no-script-run}
 use Rattle.synergy_share.proofs.ServingHeadline.{not-served, shares-served}

@@ -65,9 +65,12 @@ returns-in-Some-Replay-clause-headline g c config script trace names =
 pub returns-in-Some-Serve-clause-serves : goal.returns-in-Some-Serve-clause-serves
 returns-in-Some-Serve-clause-serves g c config script port turns names =
     let r = c.in-Some-Serve in
+    let told = g.F.Files.told c.args.files.now in
+    let named = subst (λ (x : Command). Names (form_of x) c.args.words.now) r.field-0-is r.ensures.named in
     let same = same_serve c.args.words.now r.config.now r.script.now r.port r.turns config script port turns named names in
     let calls = g.F.Files.calls c.args.files.now in
     let calls' = g.F.Files.calls c.run_serve.new.files in
+    let out = g.K.Sink.state c.args.out.now in
     let out' = g.K.Sink.state c.run_serve.new.out in
     let hub = c.args.hub.now in
     let hub' = c.run_serve.new.hub in
@@ -123,7 +126,7 @@ returns-in-Some-Generate-clause-generates g c n names =
     let named = subst (λ (x : Command). Names (form_of x) c.args.words.now) r.field-0-is r.ensures.named in
     let out = g.K.Sink.state c.args.out.now in
     let out' = g.K.Sink.state c.run_generate.new.out in
-    subst (λ (x : ℕ). Generates c.run_generate.result x out out') (same_generate c.args.words.now r.field-0-field-0 n named names) c.run_generate.ensures.generates
+    subst (λ (x : ℕ). Generates c.run_generate.result x out out') (same_generate c.args.words.now r.n n named names) c.run_generate.ensures.generates
 
 pub returns-in-None-clause-serve_headline : goal.returns-in-None-clause-serve_headline
 returns-in-None-clause-serve_headline g c config script port turns names = absurd (c.in-None.ensures.none (Serve config script port turns) names)
