@@ -7,8 +7,9 @@ import check_paths
 import check_program
 import check_promises
 import check_refused
+import check_serving
 
-CHECKS = (check_promises, check_paths, check_refused, check_program)
+CHECKS = (check_promises, check_paths, check_refused, check_program, check_serving)
 
 
 def main():

@@ -185,6 +185,13 @@ def serve(name, script, turns, code, line="", **how):
     return Case(f"serve: {name}", words, code, line, files=files, **how)
 
 
+# What the runs of three numbers come to, worked out without the program.
+GENERATED = [
+    (1, b"events 2000\nswitches 10\nframes 729\nqueued 9632\ntaken 9632\n"),
+    (2, b"events 2000\nswitches 12\nframes 1860\nqueued 28701\ntaken 28701\n"),
+    (3, b"events 2000\nswitches 14\nframes 1106\nqueued 15856\ntaken 15856\n"),
+]
+
 CASES = [
     usage("none"),
     usage("an unknown one", "injects"),
@@ -278,6 +285,7 @@ CASES = [
     bad_config("2 12 UnknownKey", b"section: options\n\tkeystroke(Nope) = lockCursorToScreen(on)\n"),
     bad_config("2 18 UnknownAction", b"section: options\n\tkeystroke(F1) = dance(on)\n"),
     bad_config("66 2 TooMany", b"section: screens\n" + b"".join(b"\ts%d:\n" % number for number in range(65))),
+    *(Case(f"generate {n}", ["generate", str(n)], 0, "", sums) for n, sums in GENERATED),
     *replays(),
     serve("no turn", replay_rows.BEGIN, 0, 7, "turns spent"),
     serve("turns in which nobody comes", replay_rows.BEGIN, 2, 7, "turns spent"),
