@@ -10,6 +10,7 @@ import clipboard_rows
 import hotkey_rows
 import limit_rows
 import machine_rows
+import row_texts
 
 EXAMPLES = pathlib.Path(__file__).resolve().parent.parent / "examples"
 # How the command of an example ends, unless with 0 and no line.
@@ -180,7 +181,7 @@ def replays():
 
 def serve(name, script, turns, code, line="", **how):
     """`serve` at a free port, to which nobody connects."""
-    files = [("conf", replay_rows.DESKS.encode()), ("script", script.encode())]
+    files = [("conf", row_texts.DESKS.encode()), ("script", script.encode())]
     words = ["serve", *(name for name, _ in files), "0", str(turns)]
     return Case(f"serve: {name}", words, code, line, files=files, **how)
 
@@ -287,10 +288,10 @@ CASES = [
     bad_config("66 2 TooMany", b"section: screens\n" + b"".join(b"\ts%d:\n" % number for number in range(65))),
     *(Case(f"generate {n}", ["generate", str(n)], 0, "", sums) for n, sums in GENERATED),
     *replays(),
-    serve("no turn", replay_rows.BEGIN, 0, 7, "turns spent"),
-    serve("turns in which nobody comes", replay_rows.BEGIN, 2, 7, "turns spent"),
+    serve("no turn", row_texts.BEGIN, 0, 7, "turns spent"),
+    serve("turns in which nobody comes", row_texts.BEGIN, 2, 7, "turns spent"),
     serve("a script that quits", "primary desk 1920 1080\nquit\n", 10, 0),
-    serve("a script that is refused", replay_rows.BEGIN + "key up 38\n", 0, 1, "script 3 NotDown"),
-    serve("an output that nothing is written to", replay_rows.BEGIN, 0, 7, "turns spent", stdout=FULL),
+    serve("a script that is refused", row_texts.BEGIN + "key up 38\n", 0, 1, "script 3 NotDown"),
+    serve("an output that nothing is written to", row_texts.BEGIN, 0, 7, "turns spent", stdout=FULL),
     *examples(),
 ]
