@@ -43,7 +43,12 @@ class Place:
 
     def start(self, *words):
         child = subprocess.Popen(
-            [self.program, *words], cwd=self.folder, stdin=subprocess.DEVNULL, stdout=subprocess.PIPE, stderr=subprocess.PIPE
+            [self.program, *words],
+            cwd=self.folder,
+            bufsize=0,
+            stdin=subprocess.DEVNULL,
+            stdout=subprocess.PIPE,
+            stderr=subprocess.PIPE,
         )
         self.children.append(child)
         return child
