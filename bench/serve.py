@@ -110,7 +110,7 @@ def frames(count):
     first, begin, seen = joined[0].stdout, None, 0
     while seen < WHEELS:
         piece = first.read1(1 << 16)
-        seen += piece.count(b"wheel")
+        seen += piece.count(b"\n")
         if seen and begin is None:
             begin = time.monotonic()
     seconds = time.monotonic() - begin
