@@ -46,7 +46,7 @@ def replayed(config, script, trace, runs=RUNS):
 def show(title, count, what, run):
     print(
         f"  {title}: {count / max(run.processor, 1e-6):,.0f} {what} a second of the processor"
-        f" ({run.processor:.2f} s, {run.peak / MIB:.1f} MiB at its peak, code {run.code})",
+        f" ({run.processor:.2f} s, {run.peak / 1024:.1f} MiB at its peak, code {run.code})",
         flush=True,
     )
 
