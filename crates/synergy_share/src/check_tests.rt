@@ -1,8 +1,6 @@
 //! The command `check`, on files in memory.
 
 use super::*;
-use crate::idle_hub::IdleHub;
-use crate::idle_link::IdleLink;
 use config_text::ConfigKind;
 use share_base::{MemoryFiles, MemorySink, MemorySource, OutOfMemory};
 use std::alloc::Global;
@@ -213,39 +211,6 @@ fn a_file_has_a_mebibyte_at_most(rt: HostRuntime) -> Result<(), Fail> {
             run_check(rt.alloc(), "desks", &mut files, &mut out),
             status
         );
-    }
-    Ok(())
-}
-
-#[test]
-fn words_name_one_file(rt: HostRuntime) -> Result<(), Fail> {
-    for (words, status) in [
-        (["check"].as_slice(), Status::Usage),
-        (["check", "desks"].as_slice(), Status::Ok),
-        (["check", "--help"].as_slice(), Status::ReadFault),
-        (["check", "desks", "desks"].as_slice(), Status::Usage),
-        (["show", "desks"].as_slice(), Status::Usage),
-    ] {
-        let mut given = Vec::new(rt.alloc());
-        for word in words {
-            given.push(String::from_str(rt.alloc(), word)?)?;
-        }
-        let mut files = MemoryFiles::new(rt.alloc(), &[])?;
-        files.add("desks", SCREENS)?;
-        let mut input = MemorySource::new(rt.alloc(), &[], &[])?;
-        let mut out = MemorySink::new(rt.alloc(), 1000, &[])?;
-        let mut hub = IdleHub::new(false);
-        let mut link = IdleLink::new();
-        let ended = run(
-            rt.alloc(),
-            &given,
-            &mut files,
-            &mut input,
-            &mut hub,
-            &mut link,
-            &mut out,
-        );
-        assert_eq!(rt; ended, status);
     }
     Ok(())
 }

@@ -9,13 +9,7 @@
 mod check_tests;
 mod checking;
 mod commands;
-#[cfg(test)]
-mod generate_tests;
 mod generating;
-#[cfg(test)]
-mod idle_hub;
-#[cfg(test)]
-mod idle_link;
 mod inject_core;
 mod joining;
 mod laws;
@@ -24,8 +18,6 @@ mod real;
 #[cfg(test)]
 mod real_tests;
 mod replaying;
-#[cfg(test)]
-mod serve_tests;
 mod serving;
 mod show_core;
 mod status;

@@ -1,6 +1,4 @@
 use super::*;
-use crate::idle_hub::IdleHub;
-use crate::idle_link::IdleLink;
 use client_core::{LostCause, Which};
 use message_codec::End;
 use share_base::{MemoryFiles, MemorySink, MemorySource, OutOfMemory, Reason};
@@ -297,54 +295,4 @@ fn statuses_have_a_code_and_a_line(rt: HostRuntime) {
     assert_eq!(rt; lost.code(), 9);
     assert_eq!(rt; lost.report().as_slice(), b"lost ended\n".as_slice());
     assert_eq!(rt; Status::Ok.report().as_slice(), b"".as_slice());
-}
-
-#[test]
-fn words_name_a_command_or_none(rt: HostRuntime) -> Result<(), Fail> {
-    for (word, status) in [
-        ("inject", Status::Lost(LostCause::Ended)),
-        ("show", Status::Usage),
-        ("--help", Status::Usage),
-    ] {
-        let mut input = MemorySource::new(rt.alloc(), &[], &[])?;
-        let mut out = MemorySink::new(rt.alloc(), 0, &[])?;
-        let words = vec![in rt.alloc(); String::from_str(rt.alloc(), word)?]?;
-        let mut files = MemoryFiles::new(rt.alloc(), &[])?;
-        let mut hub = IdleHub::new(false);
-        let mut link = IdleLink::new();
-        let ended = run(
-            rt.alloc(),
-            &words,
-            &mut files,
-            &mut input,
-            &mut hub,
-            &mut link,
-            &mut out,
-        );
-        assert_eq!(rt; ended, status);
-    }
-    for (word, status) in [
-        ("server", Status::Ok),
-        ("client", Status::Ok),
-        ("both", Status::Usage),
-    ] {
-        let mut input = MemorySource::new(rt.alloc(), &[], &[])?;
-        let mut out = MemorySink::new(rt.alloc(), 0, &[])?;
-        let show = String::from_str(rt.alloc(), "show")?;
-        let words = vec![in rt.alloc(); show, String::from_str(rt.alloc(), word)?]?;
-        let mut files = MemoryFiles::new(rt.alloc(), &[])?;
-        let mut hub = IdleHub::new(false);
-        let mut link = IdleLink::new();
-        let ended = run(
-            rt.alloc(),
-            &words,
-            &mut files,
-            &mut input,
-            &mut hub,
-            &mut link,
-            &mut out,
-        );
-        assert_eq!(rt; ended, status);
-    }
-    Ok(())
 }
