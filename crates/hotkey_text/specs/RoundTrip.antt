@@ -13,9 +13,9 @@ use Rattle.hotkey_text.specs.Printed.{action_text}
 use Rattle.hotkey_text.specs.Shapes.{ActionForm, HotkeyForm, is_hotkey, hotkey_at}
 use Rattle.hotkey_rules.specs.WellFormed.{is_action}
 
--- it may stand in the word of a screen: printed ASCII other than blanks, # and )
+-- it may stand in the word of a screen: printed ASCII other than blanks, `#`, `)` and `,`
 abbrev pub is_argument_byte : ℕ → Bool
-is_argument_byte b = (nat_le 33 b && nat_le b 126) && not ((b == 35) || (b == 41))
+is_argument_byte b = (nat_le 33 b && nat_le b 126) && not ((b == 35) || (b == 41) || (b == 44))
 
 abbrev pub is_screen_word : List ℕ → Bool
 is_screen_word word = not (is_empty word) && list_all is_argument_byte word

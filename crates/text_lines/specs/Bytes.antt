@@ -23,8 +23,8 @@ takes kind.Name b =
 takes kind.Side b = not (is_blank b || (b == 40) || (b == 61))
 takes kind.Action b = not (is_blank b || (b == 40))
 takes kind.Argument b = not (b == 41)
-takes kind.Choice b = not (is_blank b || (b == 41))
-takes kind.Chord b = not (is_blank b || (b == 41) || (b == 43))
+takes kind.Choice b = not (is_blank b || (b == 41) || (b == 44))
+takes kind.Chord b = not (is_blank b || (b == 41) || (b == 44) || (b == 43))
 
 -- the longest front of bytes that pass, and what follows it
 abbrev pub front : (ℕ → Bool) → List ℕ → List ℕ

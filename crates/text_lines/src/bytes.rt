@@ -44,8 +44,8 @@ impl WordKind {
             WordKind::Side => !(is_blank(byte) || byte == b'(' || byte == b'='),
             WordKind::Action => !(is_blank(byte) || byte == b'('),
             WordKind::Argument => byte != b')',
-            WordKind::Choice => !(is_blank(byte) || byte == b')'),
-            WordKind::Chord => !(is_blank(byte) || byte == b')' || byte == b'+'),
+            WordKind::Choice => !(is_blank(byte) || byte == b')' || byte == b','),
+            WordKind::Chord => { !(is_blank(byte) || byte == b')' || byte == b',' || byte == b'+') }
         }
     }
 }
