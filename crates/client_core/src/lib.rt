@@ -10,8 +10,6 @@
 
 mod client;
 mod client_end;
-#[cfg(test)]
-mod clip_tests;
 mod clipboards;
 mod hearer;
 mod hearing;
@@ -19,10 +17,6 @@ mod laws;
 mod options;
 mod printer;
 mod stop;
-#[cfg(test)]
-mod talk_tests;
-#[cfg(test)]
-mod tests;
 
 pub use client::ClientCore;
 pub use client_end::{ClientEnd, LostCause, Which};

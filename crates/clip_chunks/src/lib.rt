@@ -15,8 +15,6 @@ mod laws;
 mod run;
 mod sending;
 mod size;
-#[cfg(test)]
-mod tests;
 mod took;
 
 pub use assembly::Assembly;

@@ -16,14 +16,8 @@ mod laws;
 mod link_table;
 mod parsing;
 mod printing;
-#[cfg(test)]
-mod printing_tests;
-#[cfg(test)]
-mod refusal_tests;
 mod sections;
 mod shapes;
-#[cfg(test)]
-mod tests;
 mod verdict_laws;
 mod words;
 

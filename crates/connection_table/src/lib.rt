@@ -11,8 +11,6 @@ mod deadlines;
 mod phase;
 mod reading;
 mod table;
-#[cfg(test)]
-mod tests;
 
 pub use connection::Connection;
 pub use phase::Phase;

@@ -10,8 +10,6 @@ mod down;
 mod draws;
 mod event;
 mod lines;
-#[cfg(test)]
-mod tests;
 mod texts;
 
 pub use texts::{Texts, made};

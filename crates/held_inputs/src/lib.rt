@@ -12,8 +12,6 @@ mod keys;
 mod laws;
 mod line;
 mod printing;
-#[cfg(test)]
-mod tests;
 
 pub use held::LONGEST_RELEASE;
 pub use injector::{Injector, LONGEST_ANSWER};

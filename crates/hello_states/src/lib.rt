@@ -16,8 +16,6 @@ mod info_fields;
 mod joined;
 mod part_cause;
 mod parting;
-#[cfg(test)]
-mod tests;
 mod version;
 
 pub use asked::{Asked, Informed};

@@ -28,8 +28,6 @@ mod names;
 mod printing;
 mod shapes;
 mod spelling_laws;
-#[cfg(test)]
-mod tests;
 
 pub use arguments::{ActionWords, ScreenWord};
 pub use fault_laws::{words_are_refused_for_their_first_fault, words_faults_stand_from_the_left};

@@ -8,8 +8,6 @@
 mod open_line;
 mod seen;
 mod tally;
-#[cfg(test)]
-mod tests;
 mod totals;
 
 pub use tally::Tally;

@@ -17,8 +17,6 @@ mod messages;
 mod reading;
 mod rows;
 mod show_line;
-#[cfg(test)]
-mod tests;
 
 pub use clip_mark::ClipMark;
 pub use decoder::decode;

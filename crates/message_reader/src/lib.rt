@@ -9,8 +9,6 @@
 mod laws;
 mod reader;
 mod role;
-#[cfg(test)]
-mod tests;
 
 pub use laws::one_reading;
 pub use reader::{BadFrame, MessageReader, ReadStep};

@@ -11,8 +11,6 @@ mod laws;
 mod printing;
 mod rows;
 mod settings;
-#[cfg(test)]
-mod tests;
 mod values;
 mod wire;
 

@@ -9,8 +9,6 @@
 mod point;
 mod surroundings;
 mod switch_gate;
-#[cfg(test)]
-mod tests;
 mod way;
 
 pub use point::{Point, clamped, edge_at, entry_point, middle};

@@ -19,8 +19,6 @@ mod limits;
 mod rows;
 mod script;
 mod script_reading;
-#[cfg(test)]
-mod tests;
 mod trace;
 mod trace_reading;
 mod track;

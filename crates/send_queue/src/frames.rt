@@ -12,6 +12,9 @@ use share_base::{Octets, OutOfMemory};
 /// How many bytes the length before a body has.
 pub const LENGTH_BYTES: u64 = 4;
 
+/// How much room the buffer of a large queue has, in bytes: one and a half of what may be untaken.
+const LARGE_ROOM: usize = 25_165_824;
+
 /// Appends the frame of a message, whose body has at most `BODY_LIMIT` bytes. `body` is scratch
 /// space: what it holds is lost. On `OutOfMemory` the bytes are unchanged.
 pub fn append_frame(bytes: &mut BytesMut, body: &mut Octets, msg: &Msg) -> Result<(), OutOfMemory>
@@ -21,8 +24,25 @@ pub fn append_frame(bytes: &mut BytesMut, body: &mut Octets, msg: &Msg) -> Resul
 {
     body.clear();
     encode(msg, body)?;
-    bytes.reserve(LENGTH_BYTES as usize + body.len())?;
+    make_room(bytes, LENGTH_BYTES as usize + body.len())?;
     bytes.extend_reserved(&(body.len() as u32).to_be_bytes());
     bytes.extend_reserved(body.as_slice());
+    Ok(())
+}
+
+// Makes room for that many bytes more. A buffer's own way doubles it, so that a queue that nobody
+// takes from would have twice the room that it may ever fill.
+fn make_room(bytes: &mut BytesMut, additional: usize) -> Result<(), OutOfMemory>
+    ensures items { bytes.new.items ≡ bytes.old.items }
+    ensures room { OnOk result (additional ≤ bytes.new.spare) }
+{
+    let wanted = bytes.len().saturating_add(additional);
+    let is_there = additional <= bytes.capacity() - bytes.len();
+    if is_there || wanted <= LARGE_ROOM / 2 || wanted > LARGE_ROOM {
+        return Ok(bytes.reserve(additional)?);
+    }
+    let mut larger = BytesMut::with_capacity(*bytes.allocator(), LARGE_ROOM)?;
+    larger.extend_reserved(bytes.as_slice());
+    *bytes = larger;
     Ok(())
 }

@@ -13,8 +13,6 @@ mod bytes;
 mod decimal_text;
 mod laws;
 mod lines;
-#[cfg(test)]
-mod tests;
 mod word_reading;
 
 pub use bytes::{WordKind, unblanked, word_len};

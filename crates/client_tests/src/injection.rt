@@ -1,7 +1,9 @@
+//! The lines of messages, and what goes up when.
+
 ghost use Rattle.std.specs.Prelude.{◌≤◌};
 ghost use Rattle.held_inputs.specs.Line.{room_of};
 
-use super::*;
+use held_inputs::*;
 use message_codec::Msg;
 use modifier_map::ModMap;
 use share_base::{ClipId, Lines, Octets};

@@ -1,6 +1,8 @@
+//! Streams, and what a client that only injects prints of them.
+
 ghost use Rattle.std.specs.Prelude.{◌^◌, ◌<◌, ◌≤◌, length};
 
-use super::*;
+use client_core::*;
 use share_base::{OutOfMemory, Reason};
 use std::alloc::Global;
 use std::process::Abort;

@@ -1,4 +1,6 @@
-use super::*;
+//! What a hotkey's line hands on.
+
+use hotkey_text::*;
 use std::test::*;
 
 #[test]

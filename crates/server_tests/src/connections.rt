@@ -1,4 +1,6 @@
-use super::*;
+//! The table of connections.
+
+use connection_table::*;
 use hello_states::PartCause;
 use message_codec::Msg;
 use std::test::*;

@@ -1,4 +1,6 @@
-use super::*;
+//! Phases of a connection.
+
+use hello_states::*;
 use message_codec::encode;
 use screen_config::Config;
 use share_base::{Octets, Reason, ScreenName, ScreenNo, ScreenSet, Shape, ShortLine};

@@ -1,6 +1,6 @@
 //! What is read of a text, and its limits.
 
-use super::*;
+use config_text::*;
 use hotkey_rules::{Action, LockMode, MOST_RULES};
 use option_table::put_number;
 use screen_config::{MOST_ACTION_KEYS, MOST_ACTIONS, MOST_ALIASES};

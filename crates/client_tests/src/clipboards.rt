@@ -1,6 +1,8 @@
+//! Clipboards that a client prints: whole ones, and no others.
+
 ghost use Rattle.std.specs.Prelude.{◌^◌, ◌<◌, ◌≤◌, length};
 
-use super::*;
+use client_core::*;
 use share_base::OutOfMemory;
 use std::alloc::Global;
 use std::process::Abort;

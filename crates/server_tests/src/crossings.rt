@@ -1,9 +1,11 @@
+//! Where the cursor crosses, and when.
+
 ghost use Rattle.screen_crossing.specs.Showing.{IsPlaced};
 
-use super::*;
 use edge_cross::Waiting;
 use option_table::OptionName;
 use screen_config::Config;
+use screen_crossing::*;
 use screen_links::{Link, Range};
 use share_base::{LAST_MOMENT, Mask, ScreenName, ScreenNo, ScreenSet, Shape, Side};
 use std::alloc::Global;

@@ -1,4 +1,6 @@
-use crate::Tally;
+//! Totals of a log.
+
+use log_tally::Tally;
 use share_base::write_all;
 use std::test::*;
 

@@ -1,6 +1,8 @@
+//! What a client answers its server, and how it ends.
+
 ghost use Rattle.std.specs.Prelude.{◌≡◌, ◌^◌, ◌<◌, ◌≤◌, IfOk, length};
 
-use super::*;
+use client_core::*;
 use script_screen::read_client_script;
 use share_base::{OutOfMemory, Reason, ScreenName};
 use std::alloc::Global;

@@ -1,5 +1,5 @@
 use Rattle.std.proofs.Common.{◌≡◌, length}
-use Rattle.message_reader.proofs.tests.read_piece.Given as goal
+use Rattle.message_tests.proofs.readers.read_piece.Given as goal
 
 abbrev pub invariant-loop-msg : goal.invariant-loop-msg
 invariant-loop-msg l = l.reader.total ≡ l.initial.reader.total

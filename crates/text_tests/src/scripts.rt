@@ -1,10 +1,12 @@
-use crate::TextKind::{
+//! Scripts and traces that are refused, each at its first bad line.
+
+use crate::scripts::Which::{Client, Server, Turns};
+use screen_config::Config;
+use script_screen::TextKind::{
     AlreadyDown, BadHex, BadNumber, BadWord, MomentBack, NoPrimary, NoTurn, NotDown, SecondPrimary,
     UnknownConnection, UnknownScreen, WrongNumber,
 };
-use crate::tests::Which::{Client, Server, Turns};
-use crate::*;
-use screen_config::Config;
+use script_screen::*;
 use share_base::ScreenName;
 use std::alloc::Global;
 use std::test::*;

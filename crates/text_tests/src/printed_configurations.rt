@@ -1,6 +1,6 @@
 //! Texts, and the same as they are printed.
 
-use crate::tests::{every_option, printed, three_screens};
+use crate::configurations::{every_option, printed, three_screens};
 use share_base::Octets;
 use std::alloc::Global;
 use std::process::Abort;

@@ -1,4 +1,6 @@
-use super::*;
+//! Options, their defaults and their codes.
+
+use option_table::*;
 use std::test::*;
 
 #[test]

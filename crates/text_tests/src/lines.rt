@@ -1,5 +1,7 @@
-use super::*;
+//! Lines, comments and numbers.
+
 use std::test::*;
+use text_lines::*;
 
 #[test]
 fn one_return_before_the_line_feed_is_dropped(rt: HostRuntime) {

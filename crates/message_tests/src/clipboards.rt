@@ -1,6 +1,8 @@
+//! Clipboards: their frames, the answer to each part, and the book of who has which.
+
 ghost use Rattle.std.specs.Prelude.{◌≤◌, ◌<◌, length};
 
-use super::*;
+use clip_chunks::*;
 use message_codec::ClipMark::{self, Chunk, End, Start};
 use share_base::{ClipId, Octets, OutOfMemory, ScreenNo, ScreenSet};
 use std::process::Abort;

@@ -1,4 +1,6 @@
-use super::*;
+//! Bodies of messages: read, shown and written again, and the first fault of each bad one.
+
+use message_codec::*;
 use share_base::Octets;
 use std::alloc::Global;
 use std::test::*;

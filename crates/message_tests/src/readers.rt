@@ -1,7 +1,9 @@
+//! Streams of messages, cut at each byte.
+
 ghost use Rattle.std.specs.Prelude.{◌≡◌, ◌+◌, ◌^◌, ◌<◌, ◌≤◌, OnOk, length};
 
-use super::*;
 use message_codec::{End, show};
+use message_reader::*;
 use share_base::{Octets, OutOfMemory, Reason};
 use std::alloc::Global;
 use std::process::Abort;

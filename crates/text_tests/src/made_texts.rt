@@ -1,4 +1,6 @@
-use crate::made;
+//! Texts that numbers make.
+
+use generated_texts::made;
 use std::test::*;
 
 /// Numbers with the first lines of their scripts after the waits, the length of each script in
