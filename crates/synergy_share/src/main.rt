@@ -1,48 +1,13 @@
-//! The program: the top call, its commands, and the adapters of the system's streams and files.
-//!
-//! The crate owns the words that name a command, the statuses that a command ends with, and the
-//! statement of what a command does with the bytes that it reads (`specs/`). What the bytes mean,
-//! the crates below know.
+//! The program: it hands the system's words, streams, files and sockets to the top call, and ends
+//! with its status.
 #![tactic(auto)]
 
-#[cfg(test)]
-mod check_tests;
-mod checking;
-mod commands;
-mod generating;
-mod inject_core;
-mod joining;
-mod laws;
-mod line_core;
-mod real;
-#[cfg(test)]
-mod real_tests;
-mod replaying;
-mod serving;
-mod show_core;
-mod status;
-#[cfg(test)]
-mod tests;
-mod texts;
-mod top;
-
-pub use checking::run_check;
-pub use command_words::{Command, form};
-pub use commands::{run_inject, run_show};
-pub use generating::run_generate;
-pub use joining::run_join;
-pub use laws::{both_ends, file_decides, one_end, refusals_name_lines};
-pub use line_core::LineCore;
 use mio_sockets::{MioHub, MioLink};
-pub use real::{StdFiles, StdSink, StdSource};
-pub use replaying::run_replay;
-pub use serving::run_serve;
-pub use show_core::ShowCore;
-pub use status::Status;
+use share_commands::{Status, run};
 use std::env;
 use std::io::{ErrorKind, Write};
 use std::process::ExitCode;
-pub use top::run;
+use system_streams::{StdFiles, StdSink, StdSource};
 
 /// Returns the words after the program's name, or `Usage` if one of them is not UTF-8.
 fn words_of(rt: &HostRuntime) -> Result<Vec<String>, Status> {

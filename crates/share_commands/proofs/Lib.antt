@@ -1,0 +1,13 @@
+pub mod ClientEnds
+pub mod InputEnds
+pub mod Shown
+pub mod Runs
+pub mod Injection
+pub mod OneEnd
+pub mod Checked
+pub mod TextLines
+pub mod SameWords
+pub mod Headline
+pub mod Generated
+pub mod ServerEnds
+pub mod ServingHeadline

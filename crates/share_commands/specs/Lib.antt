@@ -1,0 +1,17 @@
+pub mod Ways
+pub mod Endings
+pub mod Cores
+pub mod Shows
+pub mod Injecting
+pub mod Commands
+pub mod Checking
+pub mod Texts
+pub mod Replaying
+pub mod Headline
+pub mod Serving
+pub mod ServingHeadline
+pub mod Causes
+pub mod Statuses
+pub mod Words
+pub mod Generating
+pub mod Joining

@@ -1,7 +1,0 @@
-use Rattle.std.proofs.Common.{◌≡◌}
-use Rattle.std.specs.Io.KnownBytes.{Keeps}
-use Rattle.synergy_share.proofs.real.StdSinkSink.write.Given as goal
-
--- an interruption is no fault, and adds no byte
-abbrev pub invariant-loop : goal.invariant-loop
-invariant-loop g l = (l.self.faults ≡ l.fn.self.faults) × Keeps (g.W.Write.contents l.fn.self.writer) (g.W.Write.contents l.self.writer)

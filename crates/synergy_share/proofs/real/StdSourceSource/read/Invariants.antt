@@ -1,7 +1,0 @@
-use Rattle.std.proofs.Common.{◌≡◌}
-use Rattle.std.specs.Io.KnownBytes.{Keeps}
-use Rattle.synergy_share.proofs.real.StdSourceSource.read.Given as goal
-
--- an interruption is no fault, and loses no byte
-abbrev pub invariant-loop : goal.invariant-loop
-invariant-loop g l = (l.self.faults ≡ l.fn.self.faults) × Keeps (g.R.Read.remaining l.fn.self.reader) (g.R.Read.remaining l.self.reader)

@@ -1,5 +1,0 @@
-use Rattle.synergy_share.proofs.Shown.{clears}
-use Rattle.synergy_share.proofs.show_core.ShowCoreLineCore.clear_printed.Goals as goal
-
-pub returns-clause-clears : goal.returns-clause-clears
-returns-clause-clears c = clears c.args.self.now c.clear.new.self c.clear.ensures
