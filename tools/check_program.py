@@ -10,6 +10,7 @@ With a WORD, only the cases with that word in their name run.
 import os
 import pathlib
 import resource
+import signal
 import subprocess
 import sys
 import tempfile
@@ -24,12 +25,15 @@ SECONDS = 120
 
 
 def prepare(case):
-    """What the child does before it becomes the program: it closes streams, and limits its memory."""
+    """What the child does before it becomes the program: it closes streams, and limits its memory and its files."""
     for number, name in enumerate(STREAMS):
         if getattr(case, name) == "closed":
             os.close(number)
     if case.memory:
         resource.setrlimit(resource.RLIMIT_AS, (case.memory, case.memory))
+    # A write without room is to fail, and not to end the program.
+    signal.signal(signal.SIGXFSZ, signal.SIG_IGN)
+    resource.setrlimit(resource.RLIMIT_FSIZE, (case.room, case.room))
 
 
 def feed(pipe, case):

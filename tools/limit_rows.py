@@ -25,24 +25,50 @@ def size_with(cost):
     return next(size for size in range(cost - 18 * 130 - 60, cost) if clip_size(size) == cost)
 
 
-def queued(name, over):
-    """The tab sends four clipboards to a pad that takes nothing: the queue is full to its last byte, or would get
-    that many bytes more. The last frame, an end of 18 bytes, is left out then, and the pad is lost."""
+def clipboards(over):
+    """Four clipboards whose frames fill a queue behind a CINN and a CCLP, and that many bytes more."""
     first = [b"x" * MOST_CLIP] * 3
     rest = MOST_QUEUED - 18 - 13 - 3 * clip_size(MOST_CLIP)
-    clips = [*first, b"x" * (size_with(rest) + over)]
+    return [*first, b"x" * (size_with(rest) + over)]
+
+
+def filled(name, clips, script, trace, log, lines=""):
+    """The cursor goes to a pad that takes nothing, and the tab sends the clipboards."""
     said = grab(0, 1) + "".join(whole(0, 1, data) for data in clips)
     reads = len(said) // 2 // ONE_READ
+    return both(
+        name,
+        "motion 960 0\n" + script,
+        "turn 0\nroom 1 0\n" + got(2, said) + turns(*[0] * reads) + trace,
+        ENTERED + "local grab 0\nsend 1 CCLP 0 0\n" + log,
+        options("\tclipboardSharingSize = 4096\n" + lines, THREE),
+    )
+
+
+def queued(name, over):
+    """The queue is full to its last byte, or would get that many bytes more. The last frame, an end of 18 bytes, is
+    left out then, and the pad is lost."""
+    clips = clipboards(over)
     sent_all = "".join(sent_clip(1, 0, data) for data in clips)
     if over:
         sent_all = sent_all.removesuffix("send 1 DCLP 0 0 3 -\n") + f"part 1 slow\n{BACK}local clip 0 {clips[-1].hex()}\n"
     left = closed(TAKEN, TAKEN + MOST_QUEUED + over - 18 * bool(over))
-    return both(
+    return filled(name, clips, "", "", sent_all + left + closed(TAKEN, serial=2))
+
+
+def lost_in_a_list(name, actions, log):
+    """The queue of the pad is full as a hotkey's list runs: its first key has no room, and the pad parts as the line
+    ends, whatever came between."""
+    clips = clipboards(0)
+    sent_all = "".join(sent_clip(1, 0, data) for data in clips)
+    back = f"{BACK}local clip 0 {clips[-1].hex()}\n"
+    return filled(
         name,
-        "motion 960 0\n",
-        "turn 0\nroom 1 0\n" + got(2, said) + turns(*[0] * reads),
-        ENTERED + "local grab 0\nsend 1 CCLP 0 0\n" + sent_all + left + closed(TAKEN, serial=2),
-        options("\tclipboardSharingSize = 4096\n", THREE),
+        clips,
+        "sleep 5\nkey down 61374 67\nkey up 67\n",
+        turns(5),
+        sent_all + log(back) + closed(TAKEN, TAKEN + MOST_QUEUED) + closed(TAKEN, serial=2),
+        f"\tkeystroke(F1) = {actions}\n",
     )
 
 
@@ -59,4 +85,14 @@ ROWS = [
     refused("script 3 BadHex", script=f"{BEGIN}copy 0 {'61' * (MOST_CLIP + 1)}\n"),
     queued("a queue that is full to its last byte", 0),
     queued("a frame too much for a queue", 1),
+    lost_in_a_list(
+        "a pad is lost within a hotkey's list",
+        "keystroke(a), keystroke(b)",
+        lambda back: "part 1 slow\n" + back,
+    ),
+    lost_in_a_list(
+        "a hotkey's list goes on past a loss, on the screen that it entered",
+        "keystroke(a), switchToScreen(desk), keystroke(b)",
+        lambda back: back + "local key down 98 61441 0\nlocal key up 98 61441\npart 1 slow\n",
+    ),
 ]

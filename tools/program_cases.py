@@ -4,6 +4,7 @@ The expected values follow docs/protocol.md and docs/configuration.md; none is c
 """
 
 import pathlib
+import resource
 from typing import NamedTuple
 
 import clipboard_rows
@@ -49,6 +50,8 @@ class Case(NamedTuple):
     stderr: str = "pipe"
     # The most bytes of memory that the program may have; 0 for no limit.
     memory: int = 0
+    # How many bytes a file takes, the output and standard error among them, before a write to it fails.
+    room: int = resource.RLIM_INFINITY
 
 
 def frame(code, fields=""):
@@ -179,6 +182,16 @@ def replays():
         yield Case(f"replay: {row.name}", words, row.code, row.line, row.log, files=files)
 
 
+def replays_without_room():
+    """A key on the pad, its release and the way back, with an output that fails after each number of bytes: what was
+    written is a front of the log. There is room for the line on standard error."""
+    row = next(row for row in machine_rows.ROWS if row.name == CUT_ROW)
+    files = [("conf", row.config), ("script", row.script), ("trace", row.trace)]
+    for room in range(len("write fault\n"), len(row.log)):
+        words = ["replay", *(name for name, _ in files)]
+        yield Case(f"replay: room for {room} bytes", words, 4, "write fault", row.log[:room], files=files, room=room)
+
+
 def serve(name, script, turns, code, line="", **how):
     """`serve` at a free port, to which nobody connects."""
     files = [("conf", row_texts.DESKS.encode()), ("script", script.encode())]
@@ -192,6 +205,8 @@ GENERATED = [
     (2, b"events 2000\nswitches 12\nframes 1860\nqueued 28701\ntaken 28701\n"),
     (3, b"events 2000\nswitches 14\nframes 1106\nqueued 15856\ntaken 15856\n"),
 ]
+
+CUT_ROW = "a key on the pad, and goodbye"
 
 CASES = [
     usage("none"),
@@ -288,6 +303,7 @@ CASES = [
     bad_config("66 2 TooMany", b"section: screens\n" + b"".join(b"\ts%d:\n" % number for number in range(65))),
     *(Case(f"generate {n}", ["generate", str(n)], 0, "", sums) for n, sums in GENERATED),
     *replays(),
+    *replays_without_room(),
     serve("no turn", row_texts.BEGIN, 0, 7, "turns spent"),
     serve("turns in which nobody comes", row_texts.BEGIN, 2, 7, "turns spent"),
     serve("a script that quits", "primary desk 1920 1080\nquit\n", 10, 0),
