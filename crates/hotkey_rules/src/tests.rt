@@ -9,6 +9,53 @@ const CONTROL_ALT: Mask = Mask(6);
 
 const RIGHT: KeyId = KeyId(0xef53);
 
+const LOCKS: [Action; 1] = [Action::Lock(LockMode::Toggle)];
+
+const SWITCHES: [Action; 1] = [Action::SwitchToward(Side::Right)];
+
+const STROKES: [Action; 1] = [Action::KeyStroke {
+    id: KeyId(97),
+    mods: Mask(1),
+    button: Button(0xf000),
+}];
+
+const CLICKS: [Action; 2] = [
+    Action::MousePress {
+        mods: Mask(0),
+        b: MouseButton(1),
+    },
+    Action::MouseRelease {
+        mods: Mask(0),
+        b: MouseButton(1),
+    },
+];
+
+/// A trigger, and what is done when it goes down and when it goes up.
+#[derive(Drop)]
+struct RuleRow(Trigger, &'static [Action], &'static [Action]);
+
+const fn key(id: KeyId, mods: Mask) -> Trigger {
+    Trigger::Key { id, mods }
+}
+
+const fn mouse(b: u8, mods: Mask) -> Trigger {
+    Trigger::Mouse {
+        b: MouseButton(b),
+        mods,
+    }
+}
+
+// The second and the third have one trigger, and the last two one number of a key and of a button.
+fn rule_rows() -> [RuleRow; 5] {
+    [
+        RuleRow(key(RIGHT, CONTROL), &LOCKS, &[]),
+        RuleRow(key(RIGHT, CONTROL_ALT), &SWITCHES, &STROKES),
+        RuleRow(key(RIGHT, CONTROL_ALT), &CLICKS, &[]),
+        RuleRow(mouse(1, CONTROL), &SWITCHES, &[]),
+        RuleRow(key(KeyId(1), CONTROL), &[], &[]),
+    ]
+}
+
 fn list(alloc: Global, actions: &[Action]) -> Result<Actions, OutOfMemory> {
     let mut list = Actions::new(alloc);
     for action in actions {
@@ -17,70 +64,53 @@ fn list(alloc: Global, actions: &[Action]) -> Result<Actions, OutOfMemory> {
     Ok(list)
 }
 
+fn rules(alloc: Global) -> Result<Rules, Fail> {
+    let mut rules = Rules::new(alloc);
+    for row in &rule_rows() {
+        rules.add(row.0, list(alloc, row.1)?, list(alloc, row.2)?)?;
+    }
+    Ok(rules)
+}
+
+/// A trigger, and the first rule that has it.
+#[derive(Drop)]
+struct Search(Trigger, Option<RuleNo>);
+
+fn searches() -> [Search; 8] {
+    [
+        Search(key(RIGHT, CONTROL_ALT), Some(RuleNo(1))),
+        Search(key(RIGHT, CONTROL), Some(RuleNo(0))),
+        Search(key(RIGHT, Mask(0)), None),
+        Search(key(KeyId(97), CONTROL), None),
+        Search(key(KeyId(1), CONTROL), Some(RuleNo(4))),
+        Search(mouse(1, CONTROL), Some(RuleNo(3))),
+        Search(mouse(1, CONTROL_ALT), None),
+        Search(mouse(2, CONTROL), None),
+    ]
+}
+
 #[test]
 fn the_first_of_two_equal_triggers_is_found(rt: HostRuntime) -> Result<(), Fail> {
-    let alloc = rt.alloc();
-    let locks = [Action::Lock(LockMode::Toggle)];
-    let clicks = [
-        Action::MousePress {
-            mods: Mask(0),
-            b: MouseButton(1),
-        },
-        Action::MouseRelease {
-            mods: Mask(0),
-            b: MouseButton(1),
-        },
-    ];
-    let switches = [Action::SwitchToward(Side::Right)];
-    let strokes = [Action::KeyStroke {
-        id: KeyId(97),
-        mods: Mask(1),
-        button: Button(0xf000),
-    }];
-    let with_control = Trigger::Key {
-        id: RIGHT,
-        mods: CONTROL,
-    };
-    let with_both = Trigger::Key {
-        id: RIGHT,
-        mods: CONTROL_ALT,
-    };
-    let mut rules = Rules::new(alloc);
-    rules.add(with_control, list(alloc, &locks)?, list(alloc, &[])?)?;
-    rules.add(with_both, list(alloc, &switches)?, list(alloc, &strokes)?)?;
-    rules.add(with_both, list(alloc, &clicks)?, list(alloc, &[])?)?;
-    assert_eq!(rt; rules.find_key(RIGHT, CONTROL_ALT), Some(RuleNo(1)));
-    assert_eq!(rt; rules.find_key(RIGHT, CONTROL), Some(RuleNo(0)));
-    assert_eq!(rt; rules.find_key(RIGHT, Mask(0)), None);
-    assert_eq!(rt; rules.find_key(KeyId(97), CONTROL), None);
-    assert_eq!(rt; rules.len(), 3);
-    assert_eq!(rt; rules.press(RuleNo(1)).as_slice(), switches.as_slice());
-    assert_eq!(rt; rules.release(RuleNo(1)).as_slice(), strokes.as_slice());
-    assert_eq!(rt; rules.as_slice()[2].press.as_slice(), clicks.as_slice());
+    let rules = rules(rt.alloc())?;
+    for row in &searches() {
+        let rule = match row.0 {
+            Trigger::Key { id, mods } => rules.find_key(id, mods),
+            Trigger::Mouse { b, mods } => rules.find_button(b, mods),
+        };
+        assert_eq!(rt; rule, row.1);
+    }
     Ok(())
 }
 
-/// Button 1 with a modifier is another trigger than key 1 with it.
 #[test]
-fn keys_and_buttons_are_apart(rt: HostRuntime) -> Result<(), Fail> {
-    let alloc = rt.alloc();
-    let mut rules = Rules::new(alloc);
-    let key = Trigger::Key {
-        id: KeyId(1),
-        mods: CONTROL,
-    };
-    let button = Trigger::Mouse {
-        b: MouseButton(1),
-        mods: CONTROL,
-    };
-    let goes = list(alloc, &[Action::SwitchTo(ScreenNo(2))])?;
-    rules.add(button, goes, Actions::new(alloc))?;
-    assert_eq!(rt; rules.find_key(KeyId(1), CONTROL), None);
-    rules.add(key, Actions::new(alloc), Actions::new(alloc))?;
-    assert_eq!(rt; rules.find_key(KeyId(1), CONTROL), Some(RuleNo(1)));
-    assert_eq!(rt; rules.find_button(MouseButton(1), CONTROL), Some(RuleNo(0)));
-    assert_eq!(rt; rules.find_button(MouseButton(1), CONTROL_ALT), None);
-    assert_eq!(rt; rules.find_button(MouseButton(2), CONTROL), None);
+fn rules_keep_their_actions(rt: HostRuntime) -> Result<(), Fail> {
+    let rules = rules(rt.alloc())?;
+    let rows = rule_rows();
+    assert_eq!(rt; rules.len(), rows.len());
+    for (rule, row) in rules.as_slice().iter().zip(&rows) {
+        assert_eq!(rt; rule.press.as_slice(), row.1);
+        assert_eq!(rt; rule.release.as_slice(), row.2);
+    }
     Ok(())
 }
 
@@ -143,9 +173,13 @@ fn each_named_key_has_its_number(rt: HostRuntime) {
 
 #[test]
 fn keys_are_called_in_any_letters(rt: HostRuntime) {
-    assert_eq!(rt; key_of_name(b"sHIFT_l"), Some(KeyId(0xefe1)));
-    assert_eq!(rt; key_of_name(b"Shift"), None);
-    assert_eq!(rt; key_of_name(b"Shift_L "), None);
-    assert_eq!(rt; key_of_name(b""), None);
+    for (name, key) in [
+        (b"sHIFT_l".as_slice(), Some(KeyId(0xefe1))),
+        (b"Shift", None),
+        (b"Shift_L ", None),
+        (b"", None),
+    ] {
+        assert_eq!(rt; key_of_name(name), key);
+    }
     assert_eq!(rt; name_of_key(KeyId(0xefca)), None);
 }
