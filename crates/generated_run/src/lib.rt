@@ -7,8 +7,6 @@
 
 mod counting;
 mod summary;
-#[cfg(test)]
-mod tests;
 
 pub use counting::count_run;
 pub use summary::{SUMMARY_CAPACITY, Summary};

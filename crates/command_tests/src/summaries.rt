@@ -1,4 +1,6 @@
-use crate::Summary;
+//! The summary of a counted run.
+
+use generated_run::Summary;
 use std::test::*;
 
 #[test]

@@ -1,6 +1,6 @@
 //! Words that name commands, and words that name none.
 
-use super::*;
+use command_words::*;
 use share_base::OutOfMemory;
 use std::alloc::Global;
 use std::test::*;
