@@ -3,6 +3,8 @@
 #![tactic(auto)]
 
 #[cfg(test)]
+mod hubs;
+#[cfg(test)]
 mod joining;
 #[cfg(test)]
 mod links;
