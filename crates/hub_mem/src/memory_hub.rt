@@ -63,6 +63,13 @@ impl MemoryHub {
         self.ledger.acts()
     }
 
+    /// The open serials, in the order of their acceptance.
+    pub fn open_serials(&self) -> &[u64]
+        ensures { result.now ≡ (tally self.now).serials }
+    {
+        self.ledger.serials()
+    }
+
     /// Whether the next numbered call is to fail.
     pub(crate) fn is_to_fail(&self) -> bool
         ensures { result ≡ is_to_fail self.now }

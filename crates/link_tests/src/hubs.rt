@@ -1,13 +1,9 @@
 //! The calls of a hub in memory, and what its trace answers.
 
-ghost use Rattle.std.specs.Prelude.{◌≡◌, ◌<◌, ◌≤◌, length};
-ghost use Rattle.hub_mem.specs.Answers.{hub_state};
-
 use crate::hubs::Step::{Accepts, Closes, Listens, Now, Reads, Waits, Writes};
 use hub_acts::{AcceptAnswer, CallFault, Hub, Mark, ReadAnswer, ReadyList, Waited, WriteAnswer};
 use hub_mem::MemoryHub;
 use script_screen::read_trace;
-use share_base::OutOfMemory;
 use std::test::*;
 
 /// A call, with what it answers.
@@ -137,93 +133,38 @@ const ROWS: [(&[u8], &[u64], &[Step]); 5] = [
     ),
 ];
 
-/// A hub, and the serials that are open on it.
-#[derive(Drop)]
-struct Watched {
-    hub: MemoryHub,
-    serials: Vec<u64>,
-    ghost same: { (hub_state hub).open_now ≡ serials.items },
-}
-
-impl Watched {
-    fn accept(&mut self) -> Result<AcceptAnswer, OutOfMemory> {
-        self.serials.reserve(1)?;
-        let answer = self.hub.accept();
-        if let AcceptAnswer::New(serial) = answer {
-            self.serials.push_reserved(serial);
-        }
-        Ok(answer)
-    }
-
-    /// `None` if more connections are open than a wait allows.
-    fn wait(&mut self, ready: &mut ReadyList) -> Option<Waited> {
-        if self.serials.len() < 128 {
-            Some(self.hub.wait(9, ready))
-        } else {
-            None
-        }
-    }
-
-    /// `None` if the connection is not open.
-    fn read(&mut self, serial: u64, buf: &mut [u8]) -> Option<ReadAnswer>
-        requires { 0 < length buf.old }
-    {
-        if self.serials.contains(&serial) {
-            Some(self.hub.read(serial, buf))
-        } else {
-            None
-        }
-    }
-
-    /// `None` if the connection is not open.
-    fn write(&mut self, serial: u64, bytes: &[u8]) -> Option<WriteAnswer>
-        requires { 0 < length bytes.now }
-    {
-        if self.serials.contains(&serial) {
-            Some(self.hub.write(serial, bytes))
-        } else {
-            None
-        }
-    }
-
-    /// Whether the connection was open, and is closed.
-    fn close(&mut self, serial: u64) -> bool {
-        if !self.serials.contains(&serial) {
-            return false;
-        }
-        let answer = self.hub.close(serial);
-        if answer.is_ok() {
-            self.serials.retain(|open| *open != serial);
-        }
-        answer.is_ok()
-    }
-}
-
-/// Whether the call answers what it is to.
-fn answers(watched: &mut Watched, step: Step) -> bool {
+/// Whether the call answers what it is to, on connections that are open.
+fn answers(hub: &mut MemoryHub, step: Step) -> bool {
     let bytes = [7; 8];
     let mut buf = [0; 8];
     let mut ready = ReadyList::new();
     match step {
-        Listens(answer) => watched.hub.listen(0) == answer,
+        Listens(answer) => hub.listen(0) == answer,
         Waits(answer, marks) => {
-            watched.wait(&mut ready) == Some(answer) && ready.as_slice() == marks
+            hub.open_serials().len() < 128
+                && hub.wait(9, &mut ready) == answer
+                && ready.as_slice() == marks
         }
-        Now(moment) => watched.hub.now() == Ok(moment),
-        Accepts(answer) => watched.accept() == Ok(answer),
+        Now(moment) => hub.now() == Ok(moment),
+        Accepts(answer) => hub.accept() == answer,
         Reads(serial, room, answer, given) => {
-            if room == 0 || room > 8 || given.len() > 8 {
+            if room == 0 || room > 8 || given.len() > 8 || !hub.open_serials().contains(&serial) {
                 return false;
             }
-            watched.read(serial, &mut buf[..room]) == Some(answer) && &buf[..given.len()] == given
+            hub.read(serial, &mut buf[..room]) == answer && &buf[..given.len()] == given
         }
         Writes(serial, offered, answer) => {
-            if offered == 0 || offered > 8 {
+            if offered == 0 || offered > 8 || !hub.open_serials().contains(&serial) {
                 return false;
             }
-            watched.write(serial, &bytes[..offered]) == Some(answer)
+            hub.write(serial, &bytes[..offered]) == answer
         }
-        Closes(serial) => watched.close(serial),
+        Closes(serial) => {
+            if !hub.open_serials().contains(&serial) {
+                return false;
+            }
+            hub.close(serial) == Ok(())
+        }
     }
 }
 
@@ -233,14 +174,11 @@ fn each_call_answers_by_the_trace(rt: HostRuntime) -> Result<(), Fail> {
         let Ok(trace) = read_trace(rt.alloc(), text) else {
             return Err(Fail::new("a trace was refused"));
         };
-        let mut watched = Watched {
-            hub: MemoryHub::of_trace(rt.alloc(), trace, failing)?,
-            serials: Vec::new(rt.alloc()),
-        };
+        let mut hub = MemoryHub::of_trace(rt.alloc(), trace, failing)?;
         for step in steps {
-            assert!(rt; answers(&mut watched, *step));
+            assert!(rt; answers(&mut hub, *step));
         }
-        assert_eq!(rt; watched.hub.acts().len(), steps.len());
+        assert_eq!(rt; hub.acts().len(), steps.len());
     }
     Ok(())
 }
