@@ -1,5 +1,5 @@
 -- A call that made an act, or none, led on.
-use Rattle.std.specs.Prelude.{◌≡◌, ℕ, List, [], ◌∷◌, ◌++◌, length, Option, Some, None, Result, Ok, Err, if◌then◌else◌, Bool, true, false}
+use Rattle.std.specs.Prelude.{◌≡◌, ℕ, List, [], ◌∷◌, length, Option, Some, None, Result, Ok, Err}
 use Rattle.std.proofs.Common.{refl, ap, subst, sym, ◌∙◌}
 use Rattle.share_base.specs.declared.out_of_memory.OutOfMemory.{OutOfMemory}
 use Rattle.hub_acts.specs.declared.act.Act.{Act}

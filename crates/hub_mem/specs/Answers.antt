@@ -1,7 +1,6 @@
 -- What each call on a hub in memory answers: the act that its trace gives.
 use Rattle.std.specs.Prelude.{◌≡◌, ℕ, ◌+◌, min, Bool, true, false, ◌||◌, ◌==◌, nat_lt, if◌then◌else◌, List, [], ◌∷◌, ◌++◌, length, take, Option, Some, None, IfSome, Result, Ok, Err}
 use Rattle.std.specs.List.{list_any, flat_map}
-use Rattle.share_base.specs.Counts.{one_more}
 use Rattle.script_screen.specs.declared.trace.TraceLine.{TraceLine}
 use Rattle.script_screen.specs.declared.trace.TraceLine.TheVariants as line
 use Rattle.script_screen.specs.Traces.{is_join}
@@ -20,7 +19,7 @@ use Rattle.hub_acts.specs.declared.answers.WriteAnswer.{WriteAnswer}
 use Rattle.hub_acts.specs.declared.answers.WriteAnswer.TheVariants as written
 use Rattle.hub_acts.specs.Acts.{add_act}
 use Rattle.hub_acts.specs.Hubs.{HubState}
-use Rattle.hub_mem.specs.Tallies.{Tally, tally_of}
+use Rattle.hub_mem.specs.Tallies.{Tally, is_failing, tally_of}
 use Rattle.hub_mem.specs.Stories.{Story, story_of, next_turn, clock_in, joined_in}
 use Rattle.hub_mem.specs.Streams.{Stream, connection_of, front_length, stream_in}
 
@@ -49,7 +48,7 @@ hub_state p =
 
 -- the next numbered call is to fail
 abbrev pub is_to_fail : Played → Bool
-is_to_fail p = list_any (λ n. n == one_more (tally p).calls) p.failing
+is_to_fail p = is_failing (record { failing = p.failing; acts = p.acts })
 
 -- ---- marks
 

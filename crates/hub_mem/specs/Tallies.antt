@@ -1,6 +1,6 @@
 -- What acts come to: how many calls may fail by their number, the serials, and the two counts.
-use Rattle.std.specs.Prelude.{ℕ, Bool, true, false, if◌then◌else◌, List, []}
-use Rattle.std.specs.List.{fold}
+use Rattle.std.specs.Prelude.{ℕ, Bool, true, false, ◌==◌, if◌then◌else◌, List, []}
+use Rattle.std.specs.List.{fold, list_any}
 use Rattle.share_base.specs.Counts.{one_more}
 use Rattle.hub_acts.specs.declared.act.Act.{Act}
 use Rattle.hub_acts.specs.declared.act.Act.TheVariants as act
@@ -41,3 +41,12 @@ tally_after t a = record {
 
 abbrev pub tally_of : List Act → Tally
 tally_of acts = fold tally_after no_calls acts
+
+-- the numbers of the calls that are to fail, and the acts so far
+pub record Recorded : Type 0 where
+  pub failing : List ℕ
+  pub acts : List Act
+
+-- the next numbered call is to fail
+abbrev pub is_failing : Recorded → Bool
+is_failing r = list_any (λ n. n == one_more (tally_of r.acts).calls) r.failing

@@ -14,7 +14,7 @@ use std::marker::Model;
 pub(crate) struct Counters {
     calls: u64,
     latest: u64,
-    open: Vec<u64>,
+    serials: Vec<u64>,
     faults: u64,
     breaks: u64,
 }
@@ -27,7 +27,7 @@ impl Model for Counters {
     ghost view = { λ c. record {
       calls = c.calls;
       latest = c.latest;
-      serials = c.open.items;
+      serials = c.serials.items;
       faults = c.faults;
       breaks = c.breaks;
     } };
@@ -88,7 +88,7 @@ impl Counters {
         Counters {
             calls: 0,
             latest: 0,
-            open: Vec::new(alloc),
+            serials: Vec::new(alloc),
             faults: 0,
             breaks: 0,
         }
@@ -116,11 +116,11 @@ impl Counters {
             Act::Accept {
                 answer: AcceptAnswer::New(serial),
             } => {
-                self.open.push(*serial)?;
+                self.serials.push(*serial)?;
                 self.latest = *serial;
             }
             Act::Close { serial } => {
-                self.open.retain(|kept| kept != serial);
+                self.serials.retain(|kept| kept != serial);
             }
             _ => {}
         }
@@ -142,9 +142,9 @@ impl Counters {
     }
 
     /// The open serials, in the order of their acceptance.
-    pub(crate) fn open(&self) -> &[u64]
+    pub(crate) fn serials(&self) -> &[u64]
         ensures { result.now ≡ self.now.serials }
     {
-        self.open.as_slice()
+        self.serials.as_slice()
     }
 }

@@ -1,9 +1,7 @@
-//! The acts that were made.
+//! The acts that were made, and the calls that are to fail.
 
-ghost use Rattle.std.specs.Prelude.{◌≡◌, ◌==◌, ◌++◌, ◌∷◌, [], OnOk, OnErr};
-ghost use Rattle.std.specs.List.{list_any};
-ghost use Rattle.share_base.specs.Counts.{one_more};
-ghost use Rattle.hub_mem.specs.Tallies.{tally_of};
+ghost use Rattle.std.specs.Prelude.{◌≡◌, ◌++◌, ◌∷◌, [], IfOk, OnOk, OnErr};
+ghost use Rattle.hub_mem.specs.Tallies.{is_failing, tally_of};
 
 use crate::counters::Counters;
 use hub_acts::Act;
@@ -11,40 +9,45 @@ use share_base::OutOfMemory;
 use std::alloc::Global;
 use std::marker::Model;
 
-/// The acts that were made, with what they come to. Contracts see the list of acts.
+/// The acts that were made, with what they come to, and the numbers of the calls that are to fail.
+/// Contracts see a `Recorded`.
 #[derive(Drop)]
 pub struct Ledger {
+    failing: Vec<u64>,
     acts: Vec<Act>,
     counters: Counters,
 }
 
 impl Model for Ledger {
-    ghost use Rattle.std.specs.Prelude.{◌≡◌, List};
-    ghost use Rattle.hub_acts.specs.declared.act.Act.{Act};
-    ghost use Rattle.hub_mem.specs.Tallies.{tally_of};
+    ghost use Rattle.std.specs.Prelude.{◌≡◌};
+    ghost use Rattle.hub_mem.specs.Tallies.{Recorded, tally_of};
 
-    ghost Value = { List Act };
+    ghost Value = { Recorded };
 
-    ghost view = { λ l. l.acts.items };
+    ghost view = { λ l. record {
+      failing = l.failing.items;
+      acts = l.acts.items;
+    } };
 
     ghost invariant = { λ l. l.counters ≡ tally_of l.acts.items };
 }
 
 impl Ledger {
-    /// No act yet.
-    pub fn new(alloc: Global) -> Ledger
-        ensures { result ≡ [] }
+    /// No act yet. The calls of the listed numbers are to fail.
+    pub fn new(alloc: Global, failing: &[u64]) -> Result<Ledger, OutOfMemory>
+        ensures { IfOk result (λ l. l ≡ record { failing = failing.now; acts = [] }) }
     {
-        Ledger {
+        Ok(Ledger {
+            failing: Vec::from_slice(alloc, failing)?,
             acts: Vec::new(alloc),
             counters: Counters::new(alloc),
-        }
+        })
     }
 
     /// Adds an act. On `OutOfMemory` nothing changed.
     #[tactic(auto, using(crate::proofs::AddedActs::tally_more))]
     pub fn add(&mut self, act: Act) -> Result<(), OutOfMemory>
-        ensures ok { OnOk result (self.new ≡ self.old ++ act ∷ []) }
+        ensures ok { OnOk result (self.new ≡ record self.old { acts = self.old.acts ++ act ∷ [] }) }
         ensures err { OnErr result (self.new ≡ self.old) }
     {
         self.acts.reserve(1)?;
@@ -55,29 +58,30 @@ impl Ledger {
 
     /// The acts, first to last.
     pub fn acts(&self) -> &[Act]
-        ensures { result.now ≡ self.now }
+        ensures { result.now ≡ self.now.acts }
     {
         self.acts.as_slice()
     }
 
     /// Whether the next numbered call is one of those that are to fail.
-    pub fn is_to_fail(&self, failing: &[u64]) -> bool
-        ensures { result ≡ list_any (λ n. n == one_more (tally_of self.now).calls) failing.now }
+    pub fn is_to_fail(&self) -> bool
+        ensures { result ≡ is_failing self.now }
     {
-        failing.contains(&self.counters.calls().saturating_add(1))
+        self.failing
+            .contains(&self.counters.calls().saturating_add(1))
     }
 
     /// The latest serial, 0 before the first.
     pub(crate) fn latest(&self) -> u64
-        ensures { result ≡ (tally_of self.now).latest }
+        ensures { result ≡ (tally_of self.now.acts).latest }
     {
         self.counters.latest()
     }
 
     /// The open serials, in the order of their acceptance.
-    pub(crate) fn open(&self) -> &[u64]
-        ensures { result.now ≡ (tally_of self.now).serials }
+    pub(crate) fn serials(&self) -> &[u64]
+        ensures { result.now ≡ (tally_of self.now.acts).serials }
     {
-        self.counters.open()
+        self.counters.serials()
     }
 }

@@ -9,13 +9,14 @@
 
 mod counters;
 mod cursor;
+mod hub_calls;
+mod hub_streams;
+mod hub_turns;
 mod ledger;
 mod memory_hub;
 mod playback;
 mod stream;
 mod streams;
-#[cfg(test)]
-mod tests;
 mod turn_marks;
 
 pub use cursor::Cursor;

@@ -9,8 +9,6 @@
 mod link_calls;
 mod link_playback;
 mod memory_link;
-#[cfg(test)]
-mod tests;
 
 pub use hub_acts::{Act, CallFault, Link, LinkWaited, ReadAnswer, WriteAnswer};
 pub use memory_link::MemoryLink;

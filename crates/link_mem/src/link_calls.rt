@@ -1,12 +1,10 @@
 //! The calls of a link on a link in memory.
 
-ghost use Rattle.std.specs.Prelude.{◌≡◌, ◌<◌, ◌≤◌, length};
+ghost use Rattle.std.specs.Prelude.{◌<◌, ◌≤◌, length};
 ghost use Rattle.hub_acts.specs.LinkActs.{connect_act, link_wait_act, link_now_act, link_read_act, link_write_act, link_close_act};
 ghost use Rattle.hub_acts.specs.Hubs.{FitsRead, FitsWrite};
-ghost use Rattle.hub_acts.specs.Links.{LinkCalls};
-ghost use Rattle.hub_acts.specs.declared.act.Act.TheVariants as act;
-ghost use Rattle.hub_mem.specs.Answers.{Plays};
-ghost use Rattle.link_mem.specs.LinkAnswers.{link_state, trace_connect, trace_link_wait, trace_link_now, trace_link_read, trace_link_write};
+ghost use Rattle.link_mem.specs.LinkAnswers.{link_state};
+ghost use Rattle.link_mem.specs.LinkPlays.{MemoryLinkCalls, PlaysConnect, PlaysLinkWait, PlaysLinkNow, PlaysLinkRead, PlaysLinkWrite, PlaysLinkClose};
 ghost use Rattle.link_mem.specs.LinkPlaying.{LinkPlaysOn, link_plays_stay, link_plays_go_on};
 
 use crate::memory_link::MemoryLink;
@@ -24,10 +22,8 @@ impl Link for MemoryLink {
 
     /// Fails exactly if the call is listed.
     fn connect(&mut self, host: &str, port: u16) -> Result<(), CallFault>
-        ensures calls { LinkCalls (connect_act host.now port result) (link_state self.old)
-            (link_state self.new) }
-        ensures plays { Plays (trace_connect self.old host.now port)
-            (connect_act host.now port result) self.old self.new }
+        ensures calls { MemoryLinkCalls (connect_act host.now port result) self.old self.new }
+        ensures plays { PlaysConnect host.now port result self.old self.new }
         ensures leads { LinkPlaysOn self.old self.new }
     {
         self.play_connect(host, port)
@@ -36,10 +32,8 @@ impl Link for MemoryLink {
     /// Fails exactly if the call is listed, and else brings the next turn.
     fn wait(&mut self, ms: u32) -> LinkWaited
         requires { ms ≤ 1000 }
-        ensures calls { LinkCalls (link_wait_act ms result) (link_state self.old)
-            (link_state self.new) }
-        ensures plays { Plays (trace_link_wait self.old ms) (link_wait_act ms result) self.old
-            self.new }
+        ensures calls { MemoryLinkCalls (link_wait_act ms result) self.old self.new }
+        ensures plays { PlaysLinkWait ms result self.old self.new }
         ensures leads { LinkPlaysOn self.old self.new }
     {
         self.play_wait(ms)
@@ -47,9 +41,8 @@ impl Link for MemoryLink {
 
     /// The moment of the latest turn, 0 before the first.
     fn now(&mut self) -> Result<u64, OutOfMemory>
-        ensures calls { LinkCalls (link_now_act result) (link_state self.old)
-            (link_state self.new) }
-        ensures plays { Plays (trace_link_now self.old) (link_now_act result) self.old self.new }
+        ensures calls { MemoryLinkCalls (link_now_act result) self.old self.new }
+        ensures plays { PlaysLinkNow result self.old self.new }
         ensures leads { LinkPlaysOn self.old self.new }
     {
         self.play_now()
@@ -59,10 +52,8 @@ impl Link for MemoryLink {
     fn read(&mut self, buf: &mut [u8]) -> ReadAnswer
         requires { 0 < length buf.old }
         ensures fits { FitsRead result (length buf.old) }
-        ensures calls { LinkCalls (link_read_act buf.new result) (link_state self.old)
-            (link_state self.new) }
-        ensures plays { Plays (trace_link_read self.old (length buf.old))
-            (link_read_act buf.new result) self.old self.new }
+        ensures calls { MemoryLinkCalls (link_read_act buf.new result) self.old self.new }
+        ensures plays { PlaysLinkRead (length buf.old) buf.new result self.old self.new }
         ensures leads { LinkPlaysOn self.old self.new }
     {
         self.play_read(buf)
@@ -72,10 +63,8 @@ impl Link for MemoryLink {
     fn write(&mut self, bytes: &[u8]) -> WriteAnswer
         requires { 0 < length bytes.now }
         ensures fits { FitsWrite result (length bytes.now) }
-        ensures calls { LinkCalls (link_write_act bytes.now result) (link_state self.old)
-            (link_state self.new) }
-        ensures plays { Plays (trace_link_write self.old bytes.now)
-            (link_write_act bytes.now result) self.old self.new }
+        ensures calls { MemoryLinkCalls (link_write_act bytes.now result) self.old self.new }
+        ensures plays { PlaysLinkWrite bytes.now result self.old self.new }
         ensures leads { LinkPlaysOn self.old self.new }
     {
         self.play_write(bytes)
@@ -83,9 +72,8 @@ impl Link for MemoryLink {
 
     /// Never fails but out of memory. From here on no line for the link does anything.
     fn close(&mut self) -> Result<(), OutOfMemory>
-        ensures calls { LinkCalls (link_close_act result) (link_state self.old)
-            (link_state self.new) }
-        ensures plays { Plays act.LinkClose (link_close_act result) self.old self.new }
+        ensures calls { MemoryLinkCalls (link_close_act result) self.old self.new }
+        ensures plays { PlaysLinkClose result self.old self.new }
         ensures leads { LinkPlaysOn self.old self.new }
     {
         self.play_close()

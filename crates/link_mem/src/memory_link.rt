@@ -1,14 +1,15 @@
 //! A link in memory.
 
 ghost use Rattle.std.specs.Prelude.{◌≡◌, ◌==◌, ◌<◌, ◌≤◌, ◌++◌, ◌∷◌, [], length, IfOk, OnOk, OnErr};
-ghost use Rattle.hub_acts.specs.LinkActs.{connect_act, link_wait_act, link_now_act, link_read_act, link_write_act, link_close_act};
+ghost use Rattle.hub_acts.specs.LinkActs.{link_wait_act, link_read_act, link_write_act};
 ghost use Rattle.hub_acts.specs.Hubs.{FitsRead, FitsWrite};
 ghost use Rattle.hub_acts.specs.declared.act.Act.TheVariants as act;
 ghost use Rattle.hub_acts.specs.declared.answers.WriteAnswer.TheVariants as written;
 ghost use Rattle.hub_mem.specs.Stories.{clock_in, next_turn};
 ghost use Rattle.hub_mem.specs.Answers.{Played, Plays, is_to_fail, listen_given, story};
 ghost use Rattle.hub_mem.specs.Standing.{IsNoByte, IsNoByteOrNoMemory, IsNotTaken, IsNotTakenOrNoMemory};
-ghost use Rattle.link_mem.specs.LinkAnswers.{link_of, ready_by, trace_connect, link_wait_given, trace_link_wait, trace_link_now, link_end_given, link_front_read, trace_link_read, link_write_given, trace_link_write};
+ghost use Rattle.link_mem.specs.LinkAnswers.{link_of, ready_by, link_wait_given, link_end_given, link_front_read, link_write_given};
+ghost use Rattle.link_mem.specs.LinkPlays.{PlaysConnect, PlaysLinkWait, PlaysLinkNow, PlaysLinkRead, PlaysLinkWrite, PlaysLinkClose};
 ghost use Rattle.link_mem.specs.LinkStanding.{LinkIsQuiet, IsReady, LinkIsNoTurn, none_link_read_act};
 
 use crate::link_playback::LinkPlayback;
@@ -31,7 +32,6 @@ use std::marker::Model;
 pub struct MemoryLink {
     alloc: Global,
     playback: LinkPlayback,
-    failing: Vec<u64>,
     ledger: Ledger,
 }
 
@@ -43,11 +43,11 @@ impl Model for MemoryLink {
 
     ghost view = { λ k. record {
       lines = k.playback.lines;
-      failing = k.failing.items;
-      acts = k.ledger;
+      failing = k.ledger.failing;
+      acts = k.ledger.acts;
     } };
 
-    ghost invariant = { λ k. LinkIsSound k.playback k.ledger };
+    ghost invariant = { λ k. LinkIsSound k.playback k.ledger.acts };
 }
 
 impl MemoryLink {
@@ -56,13 +56,12 @@ impl MemoryLink {
         ensures { IfOk result
             (λ k. k ≡ record { lines = trace; failing = failing.now; acts = [] }) }
     {
-        let failing = Vec::from_slice(alloc, failing)?;
         let playback = LinkPlayback::of_trace(alloc, trace)?;
+        let ledger = Ledger::new(alloc, failing)?;
         Ok(MemoryLink {
             alloc,
             playback,
-            failing,
-            ledger: Ledger::new(alloc),
+            ledger,
         })
     }
 
@@ -77,7 +76,7 @@ impl MemoryLink {
     fn is_to_fail(&self) -> bool
         ensures { result ≡ is_to_fail self.now }
     {
-        self.ledger.is_to_fail(self.failing.as_slice())
+        self.ledger.is_to_fail()
     }
 
     /// Adds an act that brings no turn and moves no stream. On `OutOfMemory` nothing changed.
@@ -102,8 +101,7 @@ impl MemoryLink {
     }
 
     pub(crate) fn play_connect(&mut self, host: &str, port: u16) -> Result<(), CallFault>
-        ensures { Plays (trace_connect self.old host.now port) (connect_act host.now port result)
-            self.old self.new }
+        ensures { PlaysConnect host.now port result self.old self.new }
     {
         let answer = self.next_connect();
         let mut name = Octets::new(self.alloc);
@@ -173,7 +171,7 @@ impl MemoryLink {
     }
 
     pub(crate) fn play_wait(&mut self, ms: u32) -> LinkWaited
-        ensures { Plays (trace_link_wait self.old ms) (link_wait_act ms result) self.old self.new }
+        ensures { PlaysLinkWait ms result self.old self.new }
     {
         let answer = self.next_wait();
         match answer {
@@ -190,7 +188,7 @@ impl MemoryLink {
     }
 
     pub(crate) fn play_now(&mut self) -> Result<u64, OutOfMemory>
-        ensures { Plays (trace_link_now self.old) (link_now_act result) self.old self.new }
+        ensures { PlaysLinkNow result self.old self.new }
     {
         let moment = self.clock();
         self.add_quiet(Act::LinkNow { moment })?;
@@ -260,8 +258,7 @@ impl MemoryLink {
     pub(crate) fn play_read(&mut self, buf: &mut [u8]) -> ReadAnswer
         requires { 0 < length buf.old }
         ensures fits { FitsRead result (length buf.old) }
-        ensures plays { Plays (trace_link_read self.old (length buf.old))
-            (link_read_act buf.new result) self.old self.new }
+        ensures plays { PlaysLinkRead (length buf.old) buf.new result self.old self.new }
     {
         match self.next_end() {
             Some(answer) => self.read_none(buf.len(), answer),
@@ -326,8 +323,7 @@ impl MemoryLink {
     pub(crate) fn play_write(&mut self, bytes: &[u8]) -> WriteAnswer
         requires { 0 < length bytes.now }
         ensures fits { FitsWrite result (length bytes.now) }
-        ensures plays { Plays (trace_link_write self.old bytes.now)
-            (link_write_act bytes.now result) self.old self.new }
+        ensures plays { PlaysLinkWrite bytes.now result self.old self.new }
     {
         match self.next_write(bytes.len()) {
             WriteAnswer::Took(count) => self.write_some(bytes, count),
@@ -336,7 +332,7 @@ impl MemoryLink {
     }
 
     pub(crate) fn play_close(&mut self) -> Result<(), OutOfMemory>
-        ensures { Plays act.LinkClose (link_close_act result) self.old self.new }
+        ensures { PlaysLinkClose result self.old self.new }
     {
         self.ledger.add(Act::LinkClose)?;
         self.playback.close();

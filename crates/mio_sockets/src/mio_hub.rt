@@ -1,9 +1,10 @@
 //! A hub over the system's sockets.
 
-ghost use Rattle.std.specs.Prelude.{◌≡◌, ◌≢◌, ◌<◌, ◌≤◌, [], None, length, IsOk};
-ghost use Rattle.hub_acts.specs.Acts.{wait_act, read_act, write_act, close_act};
-ghost use Rattle.hub_acts.specs.Hubs.{HubCalls, FitsWait, FitsRead, FitsWrite};
+ghost use Rattle.std.specs.Prelude.{◌≡◌, ◌≢◌, ◌<◌, ◌≤◌, length, IsOk};
+ghost use Rattle.hub_acts.specs.Acts.{listen_act, wait_act, now_act, accept_act, read_act, write_act, close_act};
+ghost use Rattle.hub_acts.specs.Hubs.{FitsWait, FitsAccept, FitsRead, FitsWrite};
 ghost use Rattle.hub_acts.specs.declared.answers.Waited.TheVariants as waited;
+ghost use Rattle.hub_acts.specs.declared.answers.AcceptAnswer.TheVariants as accepted;
 ghost use Rattle.hub_acts.specs.declared.answers.ReadAnswer.TheVariants as read;
 ghost use Rattle.hub_acts.specs.declared.answers.WriteAnswer.TheVariants as written;
 
@@ -33,7 +34,8 @@ struct Connection {
 ///
 /// It tells its two counts and the serials, and no act. Only `listen` allocates, and only it answers
 /// `OutOfMemory`. `wait` never answers `Over`, and no other call waits. A call that a signal interrupts
-/// is made again, but a wait ends early, with no mark.
+/// is made again, but a wait ends early, with no mark. Calls on a connection that is not open are
+/// allowed too.
 ///
 /// A connection is reported once at each change: a reader goes on until it is answered `NotNow`, `End`
 /// or `Failed`, and a writer until `NotNow` or `Failed`. Small messages are not delayed (`TCP_NODELAY`).
@@ -49,12 +51,11 @@ pub struct MioHub<R> {
 }
 
 impl<R: Net + Clock + Drop> MioHub<R> {
-    ghost use Rattle.mio_sockets.specs.Told.{hub_state, HubGoesOn};
+    ghost use Rattle.mio_sockets.specs.Told.{hub_state, new_hub};
 
     /// A hub that doesn't listen yet, whose moments are the milliseconds from now on. Does not allocate.
     pub fn new(runtime: R, alloc: Global) -> MioHub<R>
-        ensures { hub_state result
-            ≡ record { latest = 0; open_now = []; acts = None; faults = 0; breaks = 0 } }
+        ensures { hub_state result ≡ new_hub }
     {
         let stopwatch = Stopwatch::start(&runtime);
         MioHub {
@@ -103,99 +104,14 @@ impl<R: Net + Clock + Drop> MioHub<R> {
             discard_unread(&mut stream);
         }
     }
-
-    /// `Hub::wait`, however many connections are open. It fails if the hub doesn't listen.
-    pub(crate) fn wait_at_most(&mut self, ms: u32, ready: &mut ReadyList) -> Waited
-        ensures fits { FitsWait result ready.old ready.new }
-        ensures calls { HubCalls (wait_act ms ready.new result) (hub_state self.old)
-            (hub_state self.new) }
-        ensures leads { HubGoesOn (hub_state self.old) (hub_state self.new) }
-        ensures memory { result ≢ waited.OutOfMemory }
-        ensures going { result ≢ waited.Over }
-    {
-        let Some(listening) = &mut self.listening else {
-            ready.clear();
-            self.counts.add_fault();
-            return Waited::Failed;
-        };
-        match listening.wait(ms, ready) {
-            Ok(()) => Waited::Ready,
-            Err(_) => {
-                self.counts.add_fault();
-                Waited::Failed
-            }
-        }
-    }
-
-    /// `Hub::read`, which fails if the connection is not open.
-    pub(crate) fn read_from(&mut self, serial: u64, buf: &mut [u8]) -> ReadAnswer
-        requires { 0 < length buf.old }
-        ensures fits { FitsRead result (length buf.old) }
-        ensures calls { HubCalls (read_act serial buf.new result) (hub_state self.old)
-            (hub_state self.new) }
-        ensures leads { HubGoesOn (hub_state self.old) (hub_state self.new) }
-        ensures memory { result ≢ read.OutOfMemory }
-    {
-        match self.try_read(serial, buf) {
-            ReadAnswer::Failed => {
-                self.counts.add_break();
-                ReadAnswer::Failed
-            }
-            answer => answer,
-        }
-    }
-
-    /// `Hub::write`, which fails if the connection is not open.
-    pub(crate) fn write_to(&mut self, serial: u64, bytes: &[u8]) -> WriteAnswer
-        requires { 0 < length bytes.now }
-        ensures fits { FitsWrite result (length bytes.now) }
-        ensures calls { HubCalls (write_act serial bytes.now result) (hub_state self.old)
-            (hub_state self.new) }
-        ensures leads { HubGoesOn (hub_state self.old) (hub_state self.new) }
-        ensures memory { result ≢ written.OutOfMemory }
-    {
-        match self.try_write(serial, bytes) {
-            WriteAnswer::Failed => {
-                self.counts.add_break();
-                WriteAnswer::Failed
-            }
-            answer => answer,
-        }
-    }
-
-    /// `Hub::close`, which does nothing if the connection is not open.
-    pub(crate) fn close_stream(&mut self, serial: u64) -> Result<(), OutOfMemory>
-        ensures calls { HubCalls (close_act serial result) (hub_state self.old)
-            (hub_state self.new) }
-        ensures leads { HubGoesOn (hub_state self.old) (hub_state self.new) }
-        ensures memory { IsOk result }
-    {
-        self.discard_unread(serial);
-        self.connections
-            .retain(|connection| connection.serial != serial);
-        look_again(&mut self.listening);
-        Ok(())
-    }
-
-    /// The port that it listens at.
-    #[cfg(test)]
-    pub(crate) fn port(&self) -> Option<u16> {
-        self.listening.as_ref()?.port().ok()
-    }
-
-    /// The counts of faults and of breaks.
-    #[cfg(test)]
-    pub(crate) fn counts(&self) -> (u64, u64) {
-        (self.counts.faults, self.counts.breaks)
-    }
 }
 
 impl<R: Net + Clock + Drop> Hub for MioHub<R> {
-    ghost use Rattle.mio_sockets.specs.Told.{hub_state, HubGoesOn, hub_stays, hub_goes_on};
+    ghost use Rattle.mio_sockets.specs.Told.{hub_state, HubGoesOn, SocketHubCalls, SocketHubGoesOn, hub_stays, hub_goes_on};
 
     ghost state = { hub_state };
 
-    ghost leads = { λ old new. HubGoesOn (hub_state old) (hub_state new) };
+    ghost leads = { SocketHubGoesOn };
 
     ghost stays = { λ h. hub_stays (hub_state h) };
 
@@ -204,7 +120,10 @@ impl<R: Net + Clock + Drop> Hub for MioHub<R> {
 
     /// Listens at that port of every IPv4 address of this machine, or at a free port for 0. A hub
     /// listens once: it fails if it listens already.
-    fn listen(&mut self, port: u16) -> Result<(), CallFault> {
+    fn listen(&mut self, port: u16) -> Result<(), CallFault>
+        ensures calls { SocketHubCalls (listen_act port result) self.old self.new }
+        ensures leads { SocketHubGoesOn self.old self.new }
+    {
         if self.listening.is_some() {
             self.counts.add_fault();
             return Err(CallFault::Failed);
@@ -225,19 +144,45 @@ impl<R: Net + Clock + Drop> Hub for MioHub<R> {
         }
     }
 
-    /// Fails if the hub doesn't listen.
-    fn wait(&mut self, ms: u32, ready: &mut ReadyList) -> Waited {
-        self.wait_at_most(ms, ready)
+    /// Fails if the hub doesn't listen. It may be called however many connections are open.
+    fn wait(&mut self, ms: u32, ready: &mut ReadyList) -> Waited
+        ensures fits { FitsWait result ready.old ready.new }
+        ensures calls { SocketHubCalls (wait_act ms ready.new result) self.old self.new }
+        ensures leads { SocketHubGoesOn self.old self.new }
+        ensures memory { result ≢ waited.OutOfMemory }
+        ensures going { result ≢ waited.Over }
+    {
+        let Some(listening) = &mut self.listening else {
+            ready.clear();
+            self.counts.add_fault();
+            return Waited::Failed;
+        };
+        match listening.wait(ms, ready) {
+            Ok(()) => Waited::Ready,
+            Err(_) => {
+                self.counts.add_fault();
+                Waited::Failed
+            }
+        }
     }
 
     /// The milliseconds since the hub was made, and never less than before. If the clock fails, the
     /// latest moment again.
-    fn now(&mut self) -> Result<u64, OutOfMemory> {
+    fn now(&mut self) -> Result<u64, OutOfMemory>
+        ensures calls { SocketHubCalls (now_act result) self.old self.new }
+        ensures leads { SocketHubGoesOn self.old self.new }
+        ensures memory { IsOk result }
+    {
         Ok(self.stopwatch.read(&self.runtime))
     }
 
     /// `NotNow` also while as many connections are open as fit, and if the hub doesn't listen.
-    fn accept(&mut self) -> AcceptAnswer {
+    fn accept(&mut self) -> AcceptAnswer
+        ensures fits { FitsAccept result (hub_state self.old).latest }
+        ensures calls { SocketHubCalls (accept_act result) self.old self.new }
+        ensures leads { SocketHubGoesOn self.old self.new }
+        ensures memory { result ≢ accepted.OutOfMemory }
+    {
         let Some(listening) = &mut self.listening else {
             return AcceptAnswer::NotNow;
         };
@@ -262,18 +207,52 @@ impl<R: Net + Clock + Drop> Hub for MioHub<R> {
         }
     }
 
-    /// `End` once the peer sends no more; a write may still succeed then.
-    fn read(&mut self, serial: u64, buf: &mut [u8]) -> ReadAnswer {
-        self.read_from(serial, buf)
+    /// `End` once the peer sends no more; a write may still succeed then. Fails if the connection is not
+    /// open.
+    fn read(&mut self, serial: u64, buf: &mut [u8]) -> ReadAnswer
+        requires { 0 < length buf.old }
+        ensures fits { FitsRead result (length buf.old) }
+        ensures calls { SocketHubCalls (read_act serial buf.new result) self.old self.new }
+        ensures leads { SocketHubGoesOn self.old self.new }
+        ensures memory { result ≢ read.OutOfMemory }
+    {
+        match self.try_read(serial, buf) {
+            ReadAnswer::Failed => {
+                self.counts.add_break();
+                ReadAnswer::Failed
+            }
+            answer => answer,
+        }
     }
 
-    /// Fails once the peer takes no more.
-    fn write(&mut self, serial: u64, bytes: &[u8]) -> WriteAnswer {
-        self.write_to(serial, bytes)
+    /// Fails once the peer takes no more, and if the connection is not open.
+    fn write(&mut self, serial: u64, bytes: &[u8]) -> WriteAnswer
+        requires { 0 < length bytes.now }
+        ensures fits { FitsWrite result (length bytes.now) }
+        ensures calls { SocketHubCalls (write_act serial bytes.now result) self.old self.new }
+        ensures leads { SocketHubGoesOn self.old self.new }
+        ensures memory { result ≢ written.OutOfMemory }
+    {
+        match self.try_write(serial, bytes) {
+            WriteAnswer::Failed => {
+                self.counts.add_break();
+                WriteAnswer::Failed
+            }
+            answer => answer,
+        }
     }
 
-    /// The peer gets what was written, as far as the system can do it, and then the end.
-    fn close(&mut self, serial: u64) -> Result<(), OutOfMemory> {
-        self.close_stream(serial)
+    /// The peer gets what was written, as far as the system can do it, and then the end. Does nothing
+    /// if the connection is not open.
+    fn close(&mut self, serial: u64) -> Result<(), OutOfMemory>
+        ensures calls { SocketHubCalls (close_act serial result) self.old self.new }
+        ensures leads { SocketHubGoesOn self.old self.new }
+        ensures memory { IsOk result }
+    {
+        self.discard_unread(serial);
+        self.connections
+            .retain(|connection| connection.serial != serial);
+        look_again(&mut self.listening);
+        Ok(())
     }
 }

@@ -1,7 +1,9 @@
 //! A link over one of the system's sockets.
 
-ghost use Rattle.std.specs.Prelude.{◌≡◌, ◌≢◌, ◌<◌, None, length};
+ghost use Rattle.std.specs.Prelude.{◌≡◌, ◌≢◌, ◌<◌, ◌≤◌, length, IsOk};
+ghost use Rattle.hub_acts.specs.LinkActs.{connect_act, link_wait_act, link_now_act, link_read_act, link_write_act, link_close_act};
 ghost use Rattle.hub_acts.specs.Hubs.{FitsRead, FitsWrite};
+ghost use Rattle.hub_acts.specs.declared.answers.LinkWaited.TheVariants as waited;
 ghost use Rattle.hub_acts.specs.declared.answers.ReadAnswer.TheVariants as read;
 ghost use Rattle.hub_acts.specs.declared.answers.WriteAnswer.TheVariants as written;
 
@@ -33,12 +35,12 @@ pub struct MioLink<R> {
 }
 
 impl<R: Net + Clock + Drop> MioLink<R> {
-    ghost use Rattle.mio_sockets.specs.Told.{link_state};
+    ghost use Rattle.mio_sockets.specs.Told.{link_state, new_link};
 
     /// A link that is not connected yet, whose moments are the milliseconds from now on. Does not
     /// allocate.
     pub fn new(runtime: R, alloc: Global) -> MioLink<R>
-        ensures { link_state result ≡ record { acts = None; faults = 0; breaks = 0 } }
+        ensures { link_state result ≡ new_link }
     {
         let stopwatch = Stopwatch::start(&runtime);
         MioLink {
@@ -77,20 +79,14 @@ impl<R: Net + Clock + Drop> MioLink<R> {
             None => WriteAnswer::Failed,
         }
     }
-
-    /// The counts of faults and of breaks.
-    #[cfg(test)]
-    pub(crate) fn counts(&self) -> (u64, u64) {
-        (self.counts.faults, self.counts.breaks)
-    }
 }
 
 impl<R: Net + Clock + Drop> Link for MioLink<R> {
-    ghost use Rattle.mio_sockets.specs.Told.{link_state, LinkGoesOn, link_stays, link_goes_on};
+    ghost use Rattle.mio_sockets.specs.Told.{link_state, LinkGoesOn, SocketLinkCalls, SocketLinkGoesOn, link_stays, link_goes_on};
 
     ghost state = { link_state };
 
-    ghost leads = { λ old new. LinkGoesOn (link_state old) (link_state new) };
+    ghost leads = { SocketLinkGoesOn };
 
     ghost stays = { λ l. link_stays (link_state l) };
 
@@ -99,7 +95,10 @@ impl<R: Net + Clock + Drop> Link for MioLink<R> {
 
     /// Looks the host up, and tries its addresses in turn until one accepts, each for about ten seconds
     /// at most. It fails if none does. A stream that was connected before is closed on success.
-    fn connect(&mut self, host: &str, port: u16) -> Result<(), CallFault> {
+    fn connect(&mut self, host: &str, port: u16) -> Result<(), CallFault>
+        ensures calls { SocketLinkCalls (connect_act host.now port result) self.old self.new }
+        ensures leads { SocketLinkGoesOn self.old self.new }
+    {
         match dial(&self.runtime, self.alloc, host, port) {
             Ok(dialed) => {
                 self.dialed = Some(dialed);
@@ -114,7 +113,12 @@ impl<R: Net + Clock + Drop> Link for MioLink<R> {
     }
 
     /// Fails if the link is not connected.
-    fn wait(&mut self, ms: u32) -> LinkWaited {
+    fn wait(&mut self, ms: u32) -> LinkWaited
+        ensures calls { SocketLinkCalls (link_wait_act ms result) self.old self.new }
+        ensures leads { SocketLinkGoesOn self.old self.new }
+        ensures memory { result ≢ waited.OutOfMemory }
+        ensures going { result ≢ waited.Over }
+    {
         let Some(dialed) = &mut self.dialed else {
             self.counts.add_fault();
             return LinkWaited::Failed;
@@ -130,13 +134,23 @@ impl<R: Net + Clock + Drop> Link for MioLink<R> {
 
     /// The milliseconds since the link was made, and never less than before. If the clock fails, the
     /// latest moment again.
-    fn now(&mut self) -> Result<u64, OutOfMemory> {
+    fn now(&mut self) -> Result<u64, OutOfMemory>
+        ensures calls { SocketLinkCalls (link_now_act result) self.old self.new }
+        ensures leads { SocketLinkGoesOn self.old self.new }
+        ensures memory { IsOk result }
+    {
         Ok(self.stopwatch.read(&self.runtime))
     }
 
     /// `End` once the peer sends no more; a write may still succeed then. Fails if the link is not
     /// connected.
-    fn read(&mut self, buf: &mut [u8]) -> ReadAnswer {
+    fn read(&mut self, buf: &mut [u8]) -> ReadAnswer
+        requires { 0 < length buf.old }
+        ensures fits { FitsRead result (length buf.old) }
+        ensures calls { SocketLinkCalls (link_read_act buf.new result) self.old self.new }
+        ensures leads { SocketLinkGoesOn self.old self.new }
+        ensures memory { result ≢ read.OutOfMemory }
+    {
         match self.try_read(buf) {
             ReadAnswer::Failed => {
                 self.counts.add_break();
@@ -147,7 +161,13 @@ impl<R: Net + Clock + Drop> Link for MioLink<R> {
     }
 
     /// Fails once the peer takes no more, and if the link is not connected.
-    fn write(&mut self, bytes: &[u8]) -> WriteAnswer {
+    fn write(&mut self, bytes: &[u8]) -> WriteAnswer
+        requires { 0 < length bytes.now }
+        ensures fits { FitsWrite result (length bytes.now) }
+        ensures calls { SocketLinkCalls (link_write_act bytes.now result) self.old self.new }
+        ensures leads { SocketLinkGoesOn self.old self.new }
+        ensures memory { result ≢ written.OutOfMemory }
+    {
         match self.try_write(bytes) {
             WriteAnswer::Failed => {
                 self.counts.add_break();
@@ -158,7 +178,11 @@ impl<R: Net + Clock + Drop> Link for MioLink<R> {
     }
 
     /// The peer gets what was written, as far as the system can do it, and then the end.
-    fn close(&mut self) -> Result<(), OutOfMemory> {
+    fn close(&mut self) -> Result<(), OutOfMemory>
+        ensures calls { SocketLinkCalls (link_close_act result) self.old self.new }
+        ensures leads { SocketLinkGoesOn self.old self.new }
+        ensures memory { IsOk result }
+    {
         if let Some(dialed) = &self.dialed {
             let mut stream = dialed.stream();
             discard_unread(&mut stream);

@@ -1,6 +1,6 @@
 use Rattle.hub_mem.proofs.PlayedCalls.{waited_on}
 use Rattle.hub_mem.proofs.AddedActs.{hub-calls}
-use Rattle.hub_mem.proofs.memory_hub.MemoryHubHub.wait.Goals as goal
+use Rattle.hub_mem.proofs.hub_calls.MemoryHubHub.wait.Goals as goal
 
 pub returns-clause-calls : goal.returns-clause-calls
 returns-clause-calls c = hub-calls _ _ _ c.play_wait.ensures.plays.after

@@ -1,5 +1,8 @@
-use crate::tests::Step::{Closes, Connects, Now, Reads, Waits, Writes};
-use crate::*;
+//! The calls of a link in memory, and what its trace answers.
+
+use crate::links::Step::{Closes, Connects, Now, Reads, Waits, Writes};
+use hub_acts::{CallFault, Link, LinkWaited, ReadAnswer, WriteAnswer};
+use link_mem::MemoryLink;
 use script_screen::read_trace;
 use std::test::*;
 

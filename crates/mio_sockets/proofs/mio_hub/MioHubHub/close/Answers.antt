@@ -3,7 +3,7 @@ use Rattle.std.specs.Prelude.{◌==◌}
 use Rattle.std.proofs.lemmas.Fn.{filter_same}
 use Rattle.mio_sockets.specs.declared.mio_hub.Connection.{Connection}
 use Rattle.mio_sockets.proofs.ClosedSerials.{map-filter}
-use Rattle.mio_sockets.proofs.mio_hub.MioHub.close_stream.Goals as goal
+use Rattle.mio_sockets.proofs.mio_hub.MioHubHub.close.Goals as goal
 
 pub returns-clause-calls : goal.returns-clause-calls
 returns-clause-calls g c = record {

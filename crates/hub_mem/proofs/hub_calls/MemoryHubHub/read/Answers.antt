@@ -4,11 +4,11 @@ use Rattle.std.specs.Prelude.{Contains}
 use Rattle.hub_mem.specs.Answers.{Played, tally}
 use Rattle.hub_mem.proofs.AddedActs.{hub-calls}
 use Rattle.hub_mem.proofs.OpenSerials.{open-accepted}
-use Rattle.hub_mem.proofs.memory_hub.MemoryHubHub.read.Goals as goal
+use Rattle.hub_mem.proofs.hub_calls.MemoryHubHub.read.Goals as goal
 
 pub play_read-requires-clause-there : goal.play_read-requires-clause-there
 play_read-requires-clause-there c =
-    subst (λ (p : Played). Contains (tally p).serials c.args.serial → c.args.serial ≤ (tally p).latest) c.self.view_is (open-accepted _ c.self.inside.ledger c.args.serial c.self.invariant.joined) c.requires.is_open
+    subst (λ (p : Played). Contains (tally p).serials c.args.serial → c.args.serial ≤ (tally p).latest) c.self.view_is (open-accepted _ c.self.inside.ledger.acts c.args.serial c.self.invariant.joined) c.requires.is_open
 
 pub returns-clause-calls : goal.returns-clause-calls
 returns-clause-calls c = hub-calls _ _ _ c.play_read.ensures.plays.after

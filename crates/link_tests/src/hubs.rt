@@ -1,5 +1,8 @@
-use crate::tests::Step::{Accepts, Closes, Listens, Now, Reads, Waits, Writes};
-use crate::*;
+//! The calls of a hub in memory, and what its trace answers.
+
+use crate::hubs::Step::{Accepts, Closes, Listens, Now, Reads, Waits, Writes};
+use hub_acts::{AcceptAnswer, CallFault, Hub, Mark, ReadAnswer, ReadyList, Waited, WriteAnswer};
+use hub_mem::MemoryHub;
 use script_screen::read_trace;
 use std::test::*;
 
@@ -130,33 +133,38 @@ const ROWS: [(&[u8], &[u64], &[Step]); 5] = [
     ),
 ];
 
-/// Whether the call answers what it is to.
+/// Whether the call answers what it is to, on connections that are open.
 fn answers(hub: &mut MemoryHub, step: Step) -> bool {
     let bytes = [7; 8];
     let mut buf = [0; 8];
     let mut ready = ReadyList::new();
     match step {
-        Listens(answer) => hub.play_listen(0) == answer,
+        Listens(answer) => hub.listen(0) == answer,
         Waits(answer, marks) => {
-            hub.open_count() < 128
-                && hub.play_wait(9, &mut ready) == answer
+            hub.open_serials().len() < 128
+                && hub.wait(9, &mut ready) == answer
                 && ready.as_slice() == marks
         }
-        Now(moment) => hub.play_now() == Ok(moment),
-        Accepts(answer) => hub.play_accept() == answer,
+        Now(moment) => hub.now() == Ok(moment),
+        Accepts(answer) => hub.accept() == answer,
         Reads(serial, room, answer, given) => {
-            if serial > hub.latest() || room == 0 || room > 8 || given.len() > 8 {
+            if room == 0 || room > 8 || given.len() > 8 || !hub.open_serials().contains(&serial) {
                 return false;
             }
-            hub.play_read(serial, &mut buf[..room]) == answer && &buf[..given.len()] == given
+            hub.read(serial, &mut buf[..room]) == answer && &buf[..given.len()] == given
         }
         Writes(serial, offered, answer) => {
-            if serial > hub.latest() || offered == 0 || offered > 8 {
+            if offered == 0 || offered > 8 || !hub.open_serials().contains(&serial) {
                 return false;
             }
-            hub.play_write(serial, &bytes[..offered]) == answer
+            hub.write(serial, &bytes[..offered]) == answer
         }
-        Closes(serial) => hub.play_close(serial) == Ok(()),
+        Closes(serial) => {
+            if !hub.open_serials().contains(&serial) {
+                return false;
+            }
+            hub.close(serial) == Ok(())
+        }
     }
 }
 
