@@ -1,0 +1,2 @@
+pub mod MadeTrace
+pub mod MadeConfig
