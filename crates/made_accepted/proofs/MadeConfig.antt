@@ -1,5 +1,6 @@
 -- The made configuration is read.
 use Rattle.std.proofs.Common.{◌≡◌, Ok, refl}
+use Rattle.share_base.specs.Names.{is_name, same_name}
 use Rattle.text_lines.specs.Lines.{line_text, trimmed}
 use Rattle.text_lines.specs.LineByLine.{all_lines}
 use Rattle.text_lines.specs.Reading.{literal_at, sign_at, word_at}
@@ -19,8 +20,8 @@ config_read : reading config_text ≡ Ok made_config
 unfolding made_config config_text reading all_lines judged line_text trimmed words_in outside
     section_at literal_at sign_at word_at section_named in_section is_header screen_header header_at
     known_header link_line link_at maybe_range_at new_screen known_screen new_link good_range
-    one_link_more overlaps screen_of
-config_read = ?
+    one_link_more overlaps screen_of is_name same_name
+config_read = refl
 
 pub config_accepted : Accepts config_text made_config
 config_accepted = accepts config_text made_config config_read
