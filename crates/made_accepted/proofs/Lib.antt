@@ -1,2 +1,5 @@
+pub mod PlainWords
+pub mod SpelledWords
+pub mod Turns
 pub mod MadeTrace
 pub mod MadeConfig
