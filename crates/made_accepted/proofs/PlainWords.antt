@@ -1,10 +1,11 @@
 -- Words without blanks, and the line that they make.
-use Rattle.std.proofs.Common.{◌≡◌, ℕ, ◌+◌, ◌-◌, ◌<◌, ◌≤◌, true, false, not, ◌==◌, List, [], ◌∷◌}
+use Rattle.std.proofs.Common.{◌≡◌, ℕ, ◌+◌, ◌-◌, ◌<◌, ◌≤◌, true, false, not, ◌==◌, ◌&&◌, List, [], ◌∷◌}
 use Rattle.std.proofs.Common.{◌++◌, length, get_or, Result, refl, ap, sym, subst, ◌∙◌}
 use Rattle.std.proofs.Common.{append_assoc, append-nil, nat_lt, arith}
 use Rattle.std.specs.Prelude.{filter}
 use Rattle.std.specs.List.{list_all, join_with_byte, slice_split, All}
-use Rattle.std.proofs.lemmas.Bool.{not-true, le-leb}
+use Rattle.std.proofs.lemmas.Bool.{and_parts, not-true}
+use borrow.Author.Tests.{ltb-true}
 use Rattle.std.proofs.lemmas.Bool.Decides.{nat_tests}
 use Rattle.std.proofs.lemmas.Option.{slice_get-get_or}
 use Rattle.std.proofs.lemmas.List.Splits.{slice_split_at, slice_split_none}
@@ -27,6 +28,13 @@ pub record IsWhole (w : List ℕ) : Type 0 where
   pub plain : list_all is_plain w ≡ true
   pub solid : list_all is_solid w ≡ true
   pub some : 0 < length w
+
+pub whole_literal : (w : List ℕ)
+    → (list_all is_plain w && list_all is_solid w && nat_lt 0 (length w)) ≡ true → IsWhole w
+whole_literal w h =
+    let all = and_parts (list_all is_plain w && list_all is_solid w) (nat_lt 0 (length w)) h in
+    let both = and_parts (list_all is_plain w) (list_all is_solid w) all.0 in
+    record { plain = both.0; solid = both.1; some = ltb-true 0 (length w) all.1 }
 
 abbrev pub AreWhole : List (List ℕ) → Type 0
 AreWhole [] = Unit {0}

@@ -35,7 +35,8 @@ own_turn false = refl
 same_button : (b : ℕ) → (b == b) ≡ true
 same_button b = grind arith
 
-none_more : (n : ℕ) → (n % 2 == 1) ≡ ((n + 0) % 2 == 1)
+-- the count stays
+pub none_more : (n : ℕ) → (n % 2 == 1) ≡ ((n + 0) % 2 == 1)
 none_more n = let same : n ≡ n + 0 = omega arith in ap (λ (k : ℕ). k % 2 == 1) same
 
 turned_right : (down : ℕ → Bool) (b c n : ℕ) → down b ≡ (n % 2 == 1)
