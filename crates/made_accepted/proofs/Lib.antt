@@ -5,3 +5,4 @@ pub mod TakenLines
 pub mod EventLines
 pub mod MadeTrace
 pub mod MadeConfig
+pub mod MadeScript
