@@ -1,5 +1,6 @@
 -- The line of each event: its words, the line that they make, and what it leaves down.
-use Rattle.std.proofs.Common.{◌≡◌, ℕ, zero, suc, ◌+◌, ◌<◌, ◌≤◌, Bool, true, false, List, [], ◌∷◌, ◌++◌}
+use Rattle.std.proofs.Common.{◌≡◌, ℕ, zero, suc, ◌+◌, ◌<◌, ◌≤◌, Bool, true, false, List, [], ◌∷◌}
+use Rattle.std.proofs.Common.{◌++◌}
 use Rattle.std.proofs.Common.{refl, sym, ◌∙◌, nat_lt, arith}
 use Rattle.std.specs.Prelude.{ℤ, pos, negsuc, ◌-ℤ◌, ◌≤ℤ◌, codes}
 use Rattle.std.specs.Fmt.{decimal, signed_decimal}
@@ -11,7 +12,7 @@ use Rattle.share_base.specs.Hex.{hex}
 use Rattle.script_screen.specs.declared.script.ScriptLine.{ScriptLine}
 use Rattle.script_screen.specs.Scripts.{key_after, button_after, key_is_down, button_is_down}
 use Rattle.config_text.proofs.Runs.{ended}
-use Rattle.generated_texts.specs.Draws.{state_after, drawn_after}
+use Rattle.generated_texts.specs.Draws.{drawn_after}
 use Rattle.generated_texts.specs.Events.{event_of, draws_before, events}
 use Rattle.generated_texts.specs.Lines.{is_of_key, is_of_button, is_key_down, is_button_down}
 use Rattle.generated_texts.specs.Lines.{key_line, line_after}
@@ -19,7 +20,8 @@ use Rattle.made_accepted.specs.Spoken.{line_of}
 use Rattle.made_accepted.proofs.PlainWords.{IsWhole, AreWhole, whole_literal, joined}
 use Rattle.made_accepted.proofs.SpelledWords.{IsWithin, decimal_whole, signed_whole, hex_whole}
 use Rattle.made_accepted.proofs.SpelledWords.{count_bytes}
-use Rattle.made_accepted.proofs.Turns.{none_more, counted_more, key_turned, button_turned, key_stays}
+use Rattle.made_accepted.proofs.Turns.{none_more, counted_more, key_turned, button_turned}
+use Rattle.made_accepted.proofs.Turns.{key_stays}
 use Rattle.made_accepted.proofs.Turns.{button_stays}
 use Rattle.made_accepted.proofs.TakenLines.{Makes, motion_taken, wheel_taken, key_rest, key_taken}
 use Rattle.made_accepted.proofs.TakenLines.{up_or_down, button_taken, copy_taken}
@@ -83,7 +85,10 @@ motion_spoken seed i kind e =
       word = codes "motion";
       words = signed_decimal dx ∷ signed_decimal dy ∷ [];
       text = rw e refl;
-      whole = (whole_literal (codes "motion") refl, (signed_whole dx dx_within, (signed_whole dy dy_within, tt)));
+      whole = (
+        whole_literal (codes "motion") refl,
+        (signed_whole dx dx_within, (signed_whole dy dy_within, tt)),
+      );
       makes = λ above d. rw e (motion_taken above dx dy dx_within dy_within);
       keys = λ b. rw e (none_more _ ∙ sym (counted_more (is_of_key b) (events seed i) _));
       buttons = λ b. rw e (none_more _ ∙ sym (counted_more (is_of_button b) (events seed i) _));
@@ -184,7 +189,10 @@ copy_spoken seed i =
       word = codes "copy";
       words = codes "0" ∷ hex bytes ∷ [];
       text = refl;
-      whole = (whole_literal (codes "copy") refl, (whole_literal (codes "0") refl, (hex_whole bytes are_bytes, tt)));
+      whole = (
+        whole_literal (codes "copy") refl,
+        (whole_literal (codes "0") refl, (hex_whole bytes are_bytes, tt)),
+      );
       makes = λ above d. copy_taken above bytes are_bytes
           (omega (arith, length-range_with_len 0 count));
       keys = λ b. none_more _ ∙ sym (counted_more (is_of_key b) (events seed i) _);

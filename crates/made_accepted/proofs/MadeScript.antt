@@ -1,10 +1,10 @@
 -- The made script is read under the made configuration.
-use Rattle.std.proofs.Common.{◌≡◌, ℕ, zero, suc, ◌+◌, ◌-◌, ◌<◌, ◌≤◌, List, [], ◌∷◌, ◌++◌, length, Result, Ok}
+use Rattle.std.proofs.Common.{◌≡◌, ℕ, zero, suc, ◌+◌, ◌<◌, ◌≤◌, List, [], ◌∷◌, ◌++◌, length, Result}
+use Rattle.std.proofs.Common.{Ok}
 use Rattle.std.proofs.Common.{refl, ap, sym, subst, ◌∙◌, append_assoc, add-one, add-zero, zero-add}
 use Rattle.std.proofs.Common.{false, map, arith}
 use Rattle.std.specs.Prelude.{codes}
-use Rattle.std.specs.List.{fold, flat_map, range_with_len}
-use Rattle.std.specs.Fmt.{digits}
+use Rattle.std.specs.List.{flat_map, range_with_len}
 use Rattle.std.specs.Str.Lines.{lines}
 use Rattle.std.proofs.lemmas.List.Concat.{flat_map-append}
 use Rattle.std.proofs.lemmas.List.Folds.{flat_map-map}
@@ -123,9 +123,10 @@ lines_are seed count =
 raw_are_lines : (seed : ℕ) (is : List ℕ) → AreLines (map (raw_line seed) is)
 unfolding raw_line
 raw_are_lines seed [] = tt
-raw_are_lines seed (i ∷ is) =
-    (line_joined (spoken seed i).word (spoken seed i).words (spoken seed i).whole,
-    raw_are_lines seed is)
+raw_are_lines seed (i ∷ is) = (
+  line_joined (spoken seed i).word (spoken seed i).words (spoken seed i).whole,
+  raw_are_lines seed is,
+)
 
 -- ---- read one after another
 
@@ -221,8 +222,7 @@ all_read seed count few =
     lead_on (numbered script_judged) 1 (script_start made_config) first_lines (so_far waits)
     (events ++ codes "quit" ∷ []) end first_read
     (lead_on (numbered script_judged) 5 (so_far waits) events (so_far (lines_before seed count))
-    (codes "quit" ∷ []) end (events_lead seed count 5 (omega arith))
-    (
+    (codes "quit" ∷ []) end (events_lead seed count 5 (omega arith)) (
       end,
       quit_read (5 + length events) (lines_before seed count)
           (omega (arith, few_lines seed count)),

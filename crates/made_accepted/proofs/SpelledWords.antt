@@ -1,22 +1,23 @@
 -- Numbers and bytes as words: whole, and read again.
-use Rattle.std.proofs.Common.{◌≡◌, ℕ, zero, suc, ◌+◌, ◌*◌, ◌/◌, ◌%◌, ◌^◌, ◌<◌, ◌≤◌, Bool, true, false, not}
-use Rattle.std.proofs.Common.{◌==◌, ◌&&◌, List, [], ◌∷◌, ◌++◌, length, Some, Option, refl, ap, sym}
+use Rattle.std.proofs.Common.{◌≡◌, ℕ, zero, suc, ◌+◌, ◌*◌, ◌/◌, ◌%◌, ◌^◌, ◌<◌, ◌≤◌, Bool, true}
+use Rattle.std.proofs.Common.{false, not}
+use Rattle.std.proofs.Common.{◌==◌, ◌&&◌, List, [], ◌∷◌, length, Some, Option, refl, ap}
 use Rattle.std.proofs.Common.{◌∙◌, arith}
 use Rattle.std.specs.Prelude.{ℤ, pos, negsuc, codes}
 use Rattle.std.specs.Char.{is_ascii_hexdigit, digit_value}
 use Rattle.std.specs.Fmt.{decimal, signed_decimal}
 use Rattle.std.specs.List.{list_all, flat_map, range_with_len}
 use Rattle.std.specs.Str.{bytes_eq}
-use Rattle.std.proofs.lemmas.Bool.{agree_below_at, and_from, and_right, eqb-true, not-true, and_parts}
+use Rattle.std.proofs.lemmas.Bool.{agree_below_at, and_from, and_right, eqb-true, not-true}
+use Rattle.std.proofs.lemmas.Bool.{and_parts}
 use Rattle.std.proofs.lemmas.Bool.{le-leb}
 use Rattle.std.proofs.lemmas.Fmt.{decimal_nonempty}
 use Rattle.share_base.specs.Hex.{hex_digit, hex_pair, hex}
-use Rattle.text_lines.specs.Numbers.{decimal_of}
 use Rattle.text_lines.specs.Reading.{begins}
 use Rattle.text_lines.proofs.CleanWords.{is_plain, is_solid}
 use Rattle.text_lines.proofs.NumbersAgain.{all_digits, decimal_again}
 use Rattle.script_screen.specs.Grammar.{signed_of, negated}
-use Rattle.script_screen.specs.Hex.{pair_value, byte_before, pairs_of, bytes_within}
+use Rattle.script_screen.specs.Hex.{pair_value, pairs_of, bytes_within}
 use Rattle.script_screen.proofs.PairSteps.{pairs_length, within_sizes}
 use Rattle.made_accepted.proofs.PlainWords.{IsWhole}
 

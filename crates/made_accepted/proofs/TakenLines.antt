@@ -1,5 +1,5 @@
 -- The lines that events make are taken in a script under the made configuration.
-use Rattle.std.proofs.Common.{◌≡◌, ℕ, ◌+◌, ◌^◌, ◌<◌, ◌≤◌, Bool, true, false, List, [], ◌∷◌, ◌++◌}
+use Rattle.std.proofs.Common.{◌≡◌, ℕ, ◌+◌, ◌≤◌, Bool, true, false, List, [], ◌∷◌, ◌++◌}
 use Rattle.std.proofs.Common.{if◌then◌else◌}
 use Rattle.std.proofs.Common.{length, Ok, Some, refl, arith}
 use Rattle.std.specs.Prelude.{ℤ, pos, codes}
@@ -59,7 +59,8 @@ abbrev pub up_or_down : Bool → List ℕ
 up_or_down is_down = if is_down then codes "up" else codes "down"
 
 pub button_taken : (above : List ScriptLine) (t : Bool) (b : ℕ) → 1 ≤ b → b ≤ 40
-    → button_is_down above b ≡ t → Makes above (codes "button" ∷ up_or_down t ∷ decimal b ∷ []) (button_turn t b)
+    → button_is_down above b ≡ t
+    → Makes above (codes "button" ∷ up_or_down t ∷ decimal b ∷ []) (button_turn t b)
 unfolding words_judged script_row arguments_of
 button_taken above true b low high down =
     rw (decimal_again 255 b (omega arith) (omega arith), le-leb 1 b low, down) refl

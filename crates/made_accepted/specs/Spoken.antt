@@ -49,7 +49,8 @@ made_config = record {
 
 -- ---- the script
 
--- a button that is down goes up, and one that is up goes down; a key's id is 96 more than its button
+-- a button that is down goes up, and one that is up goes down; a key's id is 96 more than its
+-- button
 abbrev pub key_turn : Bool → ℕ → ScriptLine
 key_turn is_down b =
     if is_down then line.KeyUp (record { 0 = b })

@@ -1,7 +1,7 @@
 //! The law that the three texts that a number makes are accepted by their readers.
 //!
-//! It owns what it means that they are accepted, and the law (`specs/Accepted.antt`). It has no
-//! program code.
+//! It owns what these texts say (`specs/Spoken.antt`), and what it means that they are accepted
+//! (`specs/Accepted.antt`). It has no program code.
 #![tactic(auto)]
 
 mod laws;
