@@ -6,3 +6,4 @@ pub mod EventLines
 pub mod MadeTrace
 pub mod MadeConfig
 pub mod MadeScript
+pub mod MadeTexts
