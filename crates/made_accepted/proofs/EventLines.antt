@@ -1,7 +1,7 @@
 -- The line of each event: its words, the line that they make, and what it leaves down.
 use Rattle.std.proofs.Common.{◌≡◌, ℕ, zero, suc, ◌+◌, ◌<◌, ◌≤◌, Bool, true, false, List, [], ◌∷◌}
 use Rattle.std.proofs.Common.{◌++◌}
-use Rattle.std.proofs.Common.{refl, sym, ◌∙◌, nat_lt, arith}
+use Rattle.std.proofs.Common.{length, refl, sym, ◌∙◌, nat_lt, arith}
 use Rattle.std.specs.Prelude.{ℤ, pos, negsuc, ◌-ℤ◌, ◌≤ℤ◌, codes}
 use Rattle.std.specs.Fmt.{decimal, signed_decimal}
 use Rattle.std.specs.List.{range_with_len}
@@ -23,6 +23,7 @@ use Rattle.made_accepted.proofs.SpelledWords.{count_bytes}
 use Rattle.made_accepted.proofs.Turns.{none_more, counted_more, key_turned, button_turned}
 use Rattle.made_accepted.proofs.Turns.{key_stays}
 use Rattle.made_accepted.proofs.Turns.{button_stays}
+use Rattle.made_accepted.proofs.LineLengths.{motion_short, key_short, button_short, copy_short}
 use Rattle.made_accepted.proofs.TakenLines.{Makes, motion_taken, wheel_taken, key_rest, key_taken}
 use Rattle.made_accepted.proofs.TakenLines.{up_or_down, button_taken, copy_taken}
 
@@ -56,6 +57,7 @@ pub record IsSpoken (seed i kind : ℕ) : Type 0 where
   pub text : line_after (events seed i) (event_of kind (second seed i) (third seed i))
       ≡ ended (joined (word ∷ words))
   pub whole : AreWhole (word ∷ words)
+  pub short : length (joined (word ∷ words)) < 200
   pub makes : (above : List ScriptLine) → LeavesDown above seed i
       → Makes above (word ∷ words) (line_by seed i kind)
   pub keys : (b : ℕ) → key_after b (is_key_down (events seed i) b) (line_by seed i kind)
@@ -89,6 +91,7 @@ motion_spoken seed i kind e =
         whole_literal (codes "motion") refl,
         (signed_whole dx dx_within, (signed_whole dy dy_within, tt)),
       );
+      short = motion_short dx dy dx_within dy_within;
       makes = λ above d. rw e (motion_taken above dx dy dx_within dy_within);
       keys = λ b. rw e (none_more _ ∙ sym (counted_more (is_of_key b) (events seed i) _));
       buttons = λ b. rw e (none_more _ ∙ sym (counted_more (is_of_button b) (events seed i) _));
@@ -106,6 +109,7 @@ wheel_spoken seed i = record {
     whole_literal (codes "wheel") refl,
     (whole_literal (codes "0") refl, (whole_literal (codes "120") refl, tt)),
   );
+  short = omega arith;
   makes = λ above d. wheel_taken above;
   keys = λ b. none_more _ ∙ sym (counted_more (is_of_key b) (events seed i) _);
   buttons = λ b. none_more _ ∙ sym (counted_more (is_of_button b) (events seed i) _);
@@ -141,6 +145,7 @@ key_spoken seed i =
       words = key_rest t b;
       text = key_text t b;
       whole = key_whole t b (omega arith);
+      short = key_short t b (omega arith);
       makes = λ above d. key_taken above t b (omega arith) (omega arith) (d.keys b);
       keys = λ k.
           key_turned (is_key_down (events seed i)) k b _ refl
@@ -168,6 +173,7 @@ button_spoken seed i =
         whole_literal (codes "button") refl,
         (direction t, (decimal_whole b (omega arith), tt)),
       );
+      short = button_short t b (omega arith);
       makes = λ above d. button_taken above t b (omega arith) (omega arith) (d.buttons b);
       keys = λ k.
           key_stays t k b _ ∙ none_more _ ∙ sym (counted_more (is_of_key k) (events seed i) _);
@@ -193,6 +199,7 @@ copy_spoken seed i =
         whole_literal (codes "copy") refl,
         (whole_literal (codes "0") refl, (hex_whole bytes are_bytes, tt)),
       );
+      short = copy_short count (omega arith);
       makes = λ above d. copy_taken above bytes are_bytes
           (omega (arith, length-range_with_len 0 count));
       keys = λ b. none_more _ ∙ sym (counted_more (is_of_key b) (events seed i) _);

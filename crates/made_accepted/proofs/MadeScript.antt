@@ -1,6 +1,6 @@
 -- The made script is read under the made configuration.
 use Rattle.std.proofs.Common.{◌≡◌, ℕ, zero, suc, ◌+◌, ◌<◌, ◌≤◌, List, [], ◌∷◌, ◌++◌, length, Result}
-use Rattle.std.proofs.Common.{Ok}
+use Rattle.std.proofs.Common.{Ok, length-append, ◌*◌}
 use Rattle.std.proofs.Common.{refl, ap, sym, subst, ◌∙◌, append_assoc, add-one, add-zero, zero-add}
 use Rattle.std.proofs.Common.{false, map, arith}
 use Rattle.std.specs.Prelude.{codes}
@@ -9,6 +9,7 @@ use Rattle.std.specs.Str.Lines.{lines}
 use Rattle.std.proofs.lemmas.List.Concat.{flat_map-append}
 use Rattle.std.proofs.lemmas.List.Folds.{flat_map-map}
 use Rattle.std.proofs.lemmas.List.FromFn.{map-range_with_len_more, length-map-range_with_len}
+use Rattle.std.proofs.lemmas.List.FromFn.{length-range_with_len}
 use Rattle.std.proofs.lemmas.List.Sums.{fold_push}
 use Rattle.share_base.specs.Names.{same_name}
 use Rattle.text_lines.specs.LineByLine.{LeadsOver}
@@ -110,6 +111,42 @@ all_are f g h [] = refl
 all_are f g h (i ∷ is) =
     ap (λ (t : List ℕ). t ++ flat_map f is) (h i)
     ∙ ap (λ (t : List ℕ). g i ++ t) (all_are f g h is)
+
+-- with its newline
+line_short : (seed i : ℕ) → length (event_line seed i) ≤ 200
+unfolding event_at event_after
+line_short seed i =
+    let s = spoken seed i in
+    omega
+    (arith, s.short, ap length s.text, length-append (joined (s.word ∷ s.words)) (10 ∷ []))
+
+all_short : (f : ℕ → List ℕ) → ((i : ℕ) → length (f i) ≤ 200) → (is : List ℕ)
+    → length (flat_map f is) ≤ 200 * length is
+all_short f h [] = omega arith
+all_short f h (i ∷ is) =
+    omega (arith, h i, all_short f h is, length-append (f i) (flat_map f is))
+
+lines_short : (seed count : ℕ) → length (event_lines seed count) ≤ 200 * count
+unfolding event_lines
+lines_short seed count =
+    omega (
+      arith,
+      all_short (event_line seed) (line_short seed) (range_with_len 0 count),
+      length-range_with_len 0 count,
+    )
+
+text_short : (lines : List ℕ) → length lines ≤ 200 * 2000
+    → length (texts.script_start ++ lines ++ codes "quit\n") ≤ 16777216
+text_short lines h =
+    omega (
+      arith,
+      h,
+      length-append texts.script_start (lines ++ codes "quit\n"),
+      length-append lines (codes "quit\n"),
+    )
+
+pub script_short : (seed : ℕ) → length (script_text seed) ≤ 16777216
+script_short seed = text_short (event_lines seed 2000) (lines_short seed 2000)
 
 raw_lines : ℕ → ℕ → List (List ℕ)
 raw_lines seed count = map (raw_line seed) (range_with_len 0 count)

@@ -1,5 +1,5 @@
 -- What it means that the texts of a number are accepted.
-use Rattle.std.specs.Prelude.{ℕ, List}
+use Rattle.std.specs.Prelude.{ℕ, ◌≤◌, List, length}
 use Rattle.screen_config.specs.Configurations.{Configuration}
 use Rattle.config_text.specs.Accepting.{Accepts}
 use Rattle.script_screen.specs.Scripts.{ScriptText}
@@ -19,3 +19,9 @@ abbrev pub TextsAreAccepted : ℕ → Type 0
 TextsAreAccepted n =
     (config : Configuration) × (script : ScriptText) × (trace : List TraceLine)
     × TextsSpell n config script trace
+
+-- none of them has more bytes than a file of its kind may have
+pub record TextsFitFiles (n : ℕ) : Type 0 where
+  pub config : length (texts_of n).config ≤ 1048576
+  pub script : length (texts_of n).script ≤ 16777216
+  pub trace : length (texts_of n).trace ≤ 67108864
