@@ -67,13 +67,13 @@ button_short t b h =
       number_short b (omega arith),
     )
 
-pairs_length : (bytes : List ℕ) → length (flat_map hex_pair bytes) ≡ 2 * length bytes
-pairs_length [] = omega arith
-pairs_length (b ∷ bs) = omega (arith, pairs_length bs)
+length_of_pairs : (bytes : List ℕ) → length (flat_map hex_pair bytes) ≡ 2 * length bytes
+length_of_pairs [] = omega arith
+length_of_pairs (b ∷ bs) = omega (arith, length_of_pairs bs)
 
 hex_short : (bytes : List ℕ) → length (hex bytes) ≤ 1 + 2 * length bytes
 hex_short [] = omega arith
-hex_short (b ∷ bs) = omega (arith, pairs_length (b ∷ bs))
+hex_short (b ∷ bs) = omega (arith, length_of_pairs (b ∷ bs))
 
 pub copy_short : (count : ℕ) → count ≤ 64
     → length (joined (codes "copy" ∷ codes "0" ∷ hex (range_with_len 0 count) ∷ [])) < 200
