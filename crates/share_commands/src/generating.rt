@@ -3,8 +3,8 @@
 ghost use Rattle.std.specs.Prelude.{◌≡◌};
 ghost use Rattle.generated_run.specs.Summaries.{summary_text};
 ghost use Rattle.share_commands.specs.Causes.{SinkCounts};
-ghost use Rattle.share_commands.specs.Generating.{GivesSummary, Generates, TextsAreAccepted};
-ghost use Rattle.share_commands.specs.Generating.{IsGoodEnd, PrintsSummary, end_of_run};
+ghost use Rattle.share_commands.specs.Generating.{GivesSummary, Generates, IsGoodEnd};
+ghost use Rattle.share_commands.specs.Generating.{PrintsSummary};
 
 use crate::checking::parse_config;
 use crate::status::Status;
@@ -14,10 +14,9 @@ use script_screen::made;
 use share_base::{OutOfMemory, Sink, write_all};
 use std::alloc::Global;
 
-/// What the run of that number comes to, or how a command ends without it.
+/// What the run of that number comes to, or how a command ends without it: as `OutOfMemory`.
 fn summary_of(alloc: Global, n: u64) -> Result<Summary, Status>
-    ensures gives { GivesSummary result n }
-    ensures complete { TextsAreAccepted n → IsGoodEnd (end_of_run result) }
+    ensures { GivesSummary result n }
 {
     let Ok(texts) = made(alloc, n) else {
         return Err(Status::OutOfMemory);
@@ -58,12 +57,11 @@ fn print_summary<K: Sink>(summary: &Summary, out: &mut K) -> Status
 /// entered, how many frames and bytes were queued for all connections, and how many bytes these
 /// took.
 ///
-/// It ends as `Ok` where all was written; at `WriteFault` a front of the summary is. Where one of
-/// the three texts were refused, it would end as `BadConfig`, `BadScript` or `BadTrace` at its
-/// line. Nothing is written at these, nor at `OutOfMemory`.
+/// It ends as `Ok` where all was written; at `WriteFault` a front of the summary is. Nothing is
+/// written at `OutOfMemory`. It has no other end: each of the three texts is accepted.
 pub fn run_generate<K: Sink>(alloc: Global, n: u64, out: &mut K) -> Status
     ensures generates { Generates result n (K.state out.old) (K.state out.new) }
-    ensures complete { TextsAreAccepted n → IsGoodEnd result }
+    ensures complete { IsGoodEnd result }
     ensures causes { SinkCounts result (K.state out.old).faults (K.state out.new).faults }
 {
     match summary_of(alloc, n) {

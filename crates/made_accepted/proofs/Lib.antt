@@ -1,0 +1,10 @@
+pub mod PlainWords
+pub mod SpelledWords
+pub mod Turns
+pub mod TakenLines
+pub mod LineLengths
+pub mod EventLines
+pub mod MadeTrace
+pub mod MadeConfig
+pub mod MadeScript
+pub mod MadeTexts
