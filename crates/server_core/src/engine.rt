@@ -6,7 +6,7 @@ ghost use Rattle.machine.specs.Readings as machine;
 ghost use Rattle.server_engine.specs.Engines.{meaning, Steps, ClosesParting, Reads, Offers, Counts, Logs, ClearsLog};
 ghost use Rattle.server_core.specs.Driving.{serves_in, departs_in};
 ghost use Rattle.server_core.specs.Taking.{queued_in};
-ghost use Rattle.server_core.specs.Promises.{GoesOnRunning};
+ghost use Rattle.server_core.specs.Promises.{GoesOnRunning, ClosesRunning, ClosesAtEnd, ClearsRunning, ClearsAtEnd};
 ghost use Rattle.server_core.specs.Departing.{departs_too};
 
 use crate::server::ServerCore;
@@ -60,6 +60,8 @@ impl Engine for ServerCore {
     fn closed(&mut self, serial: u64) -> Result<(), OutOfMemory>
         ensures serves { OnOk result (ClosesParting serves_in self.old self.new serial) }
         ensures departs { OnOk result (Steps departs_in self.old self.new (Closed serial)) }
+        ensures laws { OnOk result (ClosesRunning serial self.old self.new) }
+        ensures laws_at_end { OnOk result (ClosesAtEnd serial self.old self.new) }
         ensures still { OnOk result (self.new.is_broken ≡ self.old.is_broken) }
         ensures broken { OnErr result (self.new.is_broken ≡ true) }
     {
@@ -144,6 +146,8 @@ impl Engine for ServerCore {
     fn clear_log(&mut self)
         ensures serves { ClearsLog serves_in self.old self.new }
         ensures departs { ClearsLog departs_in self.old self.new }
+        ensures laws { ClearsRunning self.old self.new }
+        ensures laws_at_end { ClearsAtEnd self.old self.new }
         ensures still { self.new.is_broken ≡ self.old.is_broken }
     {
         self.log.clear();

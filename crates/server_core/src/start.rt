@@ -1,13 +1,13 @@
 //! The start of a server.
 
-ghost use Rattle.std.specs.Prelude.{◌≡◌, length, IfOk};
+ghost use Rattle.std.specs.Prelude.{◌≡◌, [], length, IfOk};
 ghost use Rattle.share_base.specs.Shapes.{IsScreenShape};
 ghost use Rattle.script_screen.specs.Scripts.{ScreensBelow};
 ghost use Rattle.machine.specs.Acceptance as acceptance;
 ghost use Rattle.machine.specs.Acceptance.{start};
 ghost use Rattle.server_core.specs.Scripts.{script_of};
 ghost use Rattle.server_core.specs.Standing.{Stands, nothing_told};
-ghost use Rattle.server_core.specs.Promises.{IsStart, origin};
+ghost use Rattle.server_core.specs.Promises.{Runs, origin};
 
 use crate::clock::Clock;
 use crate::cursor::Cursor;
@@ -47,7 +47,8 @@ impl ServerCore {
         requires { ScreensBelow (length config.screens) script }
         ensures stands { IfOk result
             (λ core. Stands nothing_told core (start config (script_of script) now)) }
-        ensures starts { IfOk result (λ core. IsStart (origin config script now)) }
+        ensures runs { IfOk result (λ core. Runs (origin config script now) 0 [] core
+            (start config (script_of script) now)) }
     {
         config.assure_sound();
         let width = script.w();

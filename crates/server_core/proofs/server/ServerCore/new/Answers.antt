@@ -13,7 +13,8 @@ use Rattle.screen_crossing.specs.Points.{point_of}
 use Rattle.server_core.specs.Lines.{line_of}
 use Rattle.server_core.specs.Scripts.{script_of}
 use Rattle.server_core.specs.Standing.{nothing_told, around}
-use Rattle.server_core.proofs.Promised.{has-script-buttons}
+use Rattle.server_core.specs.Promises.{IsStart, origin}
+use Rattle.server_core.proofs.Promised.{has-script-buttons, runs-first}
 use Rattle.server_core.proofs.server.ServerCore.new.Goals as goal
 
 pub returns-clause-stands : goal.returns-clause-stands
@@ -44,5 +45,7 @@ returns-clause-stands c =
       log = c.new-log.ensures;
     }
 
-pub returns-clause-starts : goal.returns-clause-starts
-returns-clause-starts c = record { config = c.assure_sound.ensures; script = has-script-buttons c.args.script c.w-width.ensures.sound }
+pub returns-clause-runs : goal.returns-clause-runs
+returns-clause-runs c =
+    let begins : IsStart (origin c.args.config c.args.script c.args.now) = record { config = c.assure_sound.ensures; script = has-script-buttons c.args.script c.w-width.ensures.sound } in
+    runs-first (origin c.args.config c.args.script c.args.now) _ begins (returns-clause-stands c)
