@@ -32,7 +32,7 @@ over_kept (Err _) text old new spells same = absurd spells
 abbrev Reading : Type 0
 Reading = Result Configuration ConfigRefusal
 
-same_config : (text : List ℕ) (a b : Configuration) → Accepts text a → Accepts text b → a ≡ b
+pub same_config : (text : List ℕ) (a b : Configuration) → Accepts text a → Accepts text b → a ≡ b
 same_config text a b x y = let same : reading text ≡ reading text = refl in let both : (let r : Reading = Ok a in r) ≡ Ok b = sym (accepted text a x) ∙ accepted text b y in cc
 
 not_both : (text : List ℕ) (c : Configuration) (r : ConfigRefusal) → Accepts text c → Refuses text r → ⊥

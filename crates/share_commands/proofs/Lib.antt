@@ -8,6 +8,7 @@ pub mod Checked
 pub mod TextLines
 pub mod SameWords
 pub mod Headline
+pub mod OneOutput
 pub mod Generated
 pub mod ServerEnds
 pub mod ServingHeadline

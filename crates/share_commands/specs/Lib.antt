@@ -7,6 +7,7 @@ pub mod Commands
 pub mod Checking
 pub mod Texts
 pub mod Replaying
+pub mod OneOutput
 pub mod Headline
 pub mod Serving
 pub mod ServingHeadline

@@ -1,5 +1,6 @@
 -- What `replay` makes of the files with a configuration, a script and a trace.
-use Rattle.std.specs.Prelude.{◌≡◌, ℕ, List, Option}
+use Rattle.std.specs.Prelude.{◌≡◌, ℕ, List, Option, String}
+use Rattle.std.specs.Global.{Global}
 use Rattle.share_base.specs.Counts.{one_more}
 use Rattle.share_base.specs.Writing.{SinkState}
 use Rattle.screen_config.specs.Configurations.{Configuration}
@@ -8,6 +9,7 @@ use Rattle.script_screen.specs.declared.trace.TraceLine.{TraceLine}
 use Rattle.engine_loop.specs.declared.serve_end.ServeEnd.{ServeEnd}
 use Rattle.engine_loop.specs.declared.serve_end.ServeEnd.TheVariants as ends
 use Rattle.trace_replay.specs.Replaying.{Replayed}
+use Rattle.command_words.specs.Forms.{Replay, Names}
 use Rattle.share_commands.specs.declared.status.Status.{Status}
 use Rattle.share_commands.specs.declared.status.Status.TheVariants as status
 use Rattle.share_commands.specs.Checking.{HasConfig, NoConfig}
@@ -51,3 +53,21 @@ pub data Replays (end : Status) (given : Given) (calls calls' : ℕ) (old new : 
         → HasTrace given.trace trace → Replayed config script trace ended old new
         → end ≡ status_of_run ended → calls' ≡ one_more (one_more (one_more calls))
         → Replays end given calls calls' old new
+
+-- it ends as ok, at a text that is refused, or at a fault of the files or the output, or out of
+-- memory: no wait fails, and the trace is over before the waits are used up
+abbrev pub IsReplayStatus : Status → Type 0
+IsReplayStatus status.Ok = Unit {0}
+IsReplayStatus (status.BadConfig line column kind) = Unit {0}
+IsReplayStatus (status.BadScript line kind) = Unit {0}
+IsReplayStatus (status.BadTrace line kind) = Unit {0}
+IsReplayStatus status.ReadFault = Unit {0}
+IsReplayStatus status.WriteFault = Unit {0}
+IsReplayStatus status.OutOfMemory = Unit {0}
+IsReplayStatus _ = ⊥
+
+-- if the words name `replay`, it ends so
+abbrev pub EndsReplay : List (String Global) → Status → Type 0
+EndsReplay words end =
+    (config script trace : List ℕ) → Names (Replay config script trace) words
+    → IsReplayStatus end

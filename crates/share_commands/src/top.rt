@@ -8,7 +8,8 @@ ghost use Rattle.command_words.specs.Forms.{Serve, Join, Generate};
 ghost use Rattle.share_commands.specs.Words.{Leaves, way_of};
 ghost use Rattle.share_commands.specs.Commands.{Reads, Stops, Releases};
 ghost use Rattle.share_commands.specs.Checking.{Checks, ReadsOnce, OverCounts};
-ghost use Rattle.share_commands.specs.Replaying.{Replays, given_by};
+ghost use Rattle.share_commands.specs.Replaying.{Replays, EndsReplay, given_by};
+ghost use Rattle.share_commands.specs.OneOutput.{HasOneOutput};
 ghost use Rattle.share_commands.specs.Headline.{SharesIfRun};
 ghost use Rattle.share_commands.specs.Serving.{ServesFiles, to_serve};
 ghost use Rattle.share_commands.specs.Joining.{JoinsFiles, LetsGo, LinkFaults, to_join};
@@ -64,6 +65,8 @@ pub fn run<F: Files, S: Source, H: Hub, L: Link, K: Sink>(
         → Names (Replay config script trace) words.now
         → SharesIfRun result (given_by (F.told files.old) config script trace)
         (K.state out.old) (K.state out.new) }
+    ensures one_output { HasOneOutput words.now result (F.told files.old) K.state out.old out.new }
+    ensures replay_ends { EndsReplay words.now result }
     ensures replay_overs { (config script trace : List ℕ)
         → Names (Replay config script trace) words.now
         → OverCounts result (F.overs files.old) (F.overs files.new) }

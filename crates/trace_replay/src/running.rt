@@ -61,7 +61,7 @@ pub fn replay_with_switches<K: Sink>(
 ///
 /// It ends as `Quit` where the script has quit and every connection was closed, and as `Over` where
 /// the trace ended before that; as `WriteFault` where the output failed, and has a front of the log
-/// then.
+/// then. It ends neither as `TurnsSpent` nor as `HubFault`.
 pub fn replay<K: Sink>(
     alloc: Global,
     config: Config,
@@ -70,7 +70,8 @@ pub fn replay<K: Sink>(
     out: &mut K,
 ) -> ServeEnd
     requires { ScreensBelow (length config.screens) script }
-    ensures { Replayed config script trace result (K.state out.old) (K.state out.new) }
+    ensures replayed { Replayed config script trace result (K.state out.old) (K.state out.new) }
+    ensures ends { IsReplayEnd result }
 {
     replay_with_switches(alloc, config, script, trace, out).0
 }

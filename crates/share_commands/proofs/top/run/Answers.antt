@@ -3,6 +3,7 @@ use Rattle.command_words.specs.Forms.{Check, Replay, Serve, Join, Generate, Name
 use Rattle.std.specs.Prelude.{ℕ, List}
 use Rattle.std.proofs.Common.{subst}
 use Rattle.share_commands.specs.Replaying.{Replays, given_by}
+use Rattle.share_commands.specs.OneOutput.{WritesOneOutput}
 use Rattle.share_commands.specs.Headline.{SharesIfRun}
 use Rattle.share_commands.specs.Serving.{ServesFiles, to_serve}
 use Rattle.share_commands.specs.ServingHeadline.{SharesIfServed}
@@ -61,6 +62,25 @@ returns-in-Some-Replay-clause-headline g c config script trace names =
     subst (λ (x : List ℕ). SharesIfRun end (given_by told x script trace) out out') same.0
     (subst (λ (x : List ℕ). SharesIfRun end (given_by told r.config.now x trace) out out') same.1
     (subst (λ (x : List ℕ). SharesIfRun end (given_by told r.config.now r.script.now x) out out') same.2 c.run_replay.ensures.headline))
+
+pub returns-in-None-clause-one_output : goal.returns-in-None-clause-one_output
+returns-in-None-clause-one_output g c config script trace names = absurd (c.in-None.ensures.none (Replay config script trace) names)
+
+pub returns-in-Some-Replay-clause-one_output : goal.returns-in-Some-Replay-clause-one_output
+returns-in-Some-Replay-clause-one_output g c config script trace names =
+    let r = c.in-Some-Replay in
+    let told = g.F.Files.told c.args.files.now in
+    let named = subst (λ (x : Command). Names (form_of x) c.args.words.now) r.field-0-is r.ensures.named in
+    let same = same_replay c.args.words.now r.config.now r.script.now r.trace.now config script trace named names in
+    let end = c.run_replay.result in
+    let out = g.K.Sink.state c.args.out.now in
+    let out' = g.K.Sink.state c.run_replay.new.out in
+    subst (λ (x : List ℕ). WritesOneOutput end (given_by told x script trace) out out') same.0
+    (subst (λ (x : List ℕ). WritesOneOutput end (given_by told r.config.now x trace) out out') same.1
+    (subst (λ (x : List ℕ). WritesOneOutput end (given_by told r.config.now r.script.now x) out out') same.2 c.run_replay.ensures.one_output))
+
+pub returns-in-None-clause-replay_ends : goal.returns-in-None-clause-replay_ends
+returns-in-None-clause-replay_ends g c config script trace names = absurd (c.in-None.ensures.none (Replay config script trace) names)
 
 pub returns-in-Some-Serve-clause-serves : goal.returns-in-Some-Serve-clause-serves
 returns-in-Some-Serve-clause-serves g c config script port turns names =
