@@ -23,7 +23,7 @@ use Rattle.share_commands.specs.Texts.{SpellsScript, SpellsTrace}
 use Rattle.generated_run.specs.declared.summary.Summary.{Summary}
 use Rattle.generated_run.specs.Summaries.{summary_text}
 use Rattle.share_commands.specs.Causes.{SinkCounts}
-use Rattle.share_commands.specs.Generating.{TextsSpell, TextsAreAccepted, IsSummary, NoSummary, IsGoodEnd, PrintsSummary, Generates}
+use Rattle.share_commands.specs.Generating.{TextsSpell, TextsAreAccepted, IsSummary, NoSummary, IsGoodEnd, PrintsSummary, GeneratesFrom}
 
 -- the configuration is short
 pub short_config : (text : List ℕ) → text ≡ config_text → length text < 2 ^ 32 - 1
@@ -86,7 +86,7 @@ good_end n end h a = absurd h
 
 -- ---- what is written
 
-pub generates_none : (end : Status) (n : ℕ) (old new : SinkState) → NoSummary end n → new ≡ old → Generates end n old new
+pub generates_none : (end : Status) (n : ℕ) (old new : SinkState) → NoSummary end n → new ≡ old → GeneratesFrom end n old new
 generates_none status.Ok n old new h e = absurd h
 generates_none status.WriteFault n old new h e = absurd h
 generates_none end n old new h e = (h, e)
@@ -95,7 +95,7 @@ pub counts_none : (end : Status) (n faults faults' : ℕ) → NoSummary end n �
 counts_none status.WriteFault n faults faults' h e = absurd h
 counts_none end n faults faults' h e = e
 
-pub generates_some : (end : Status) (n : ℕ) (summary : Summary) (old new : SinkState) → IsSummary n summary → PrintsSummary end (summary_text summary) old new → Generates end n old new
+pub generates_some : (end : Status) (n : ℕ) (summary : Summary) (old new : SinkState) → IsSummary n summary → PrintsSummary end (summary_text summary) old new → GeneratesFrom end n old new
 generates_some status.Ok n summary old new is p = (summary, is, p)
 generates_some status.WriteFault n summary old new is p = (summary, is, p)
 generates_some end n summary old new is p = absurd p

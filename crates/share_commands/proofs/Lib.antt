@@ -5,6 +5,7 @@ pub mod Runs
 pub mod Injection
 pub mod OneEnd
 pub mod Checked
+pub mod ReadTexts
 pub mod TextLines
 pub mod SameWords
 pub mod Headline

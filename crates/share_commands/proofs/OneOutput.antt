@@ -17,7 +17,8 @@ use Rattle.single_output.specs.OneOutput.{EndsWell}
 use Rattle.single_output.proofs.OneOutput.{write-alike}
 use Rattle.share_commands.specs.declared.status.Status.{Status}
 use Rattle.share_commands.specs.declared.status.Status.TheVariants as status
-use Rattle.share_commands.specs.Checking.{HasText, HasConfig, NoConfig}
+use Rattle.share_commands.specs.Reading.{HasText}
+use Rattle.share_commands.specs.Checking.{HasConfig, NoConfig}
 use Rattle.share_commands.specs.Texts.{HasScript, NoScript, HasTrace, NoTrace}
 use Rattle.share_commands.specs.Replaying.{Given, IsReplayStatus, status_of_run}
 use Rattle.share_commands.specs.OneOutput.{IsTold, WritesOneOutput}

@@ -4,6 +4,7 @@ pub mod Cores
 pub mod Shows
 pub mod Injecting
 pub mod Commands
+pub mod Reading
 pub mod Checking
 pub mod Texts
 pub mod Replaying
@@ -16,3 +17,5 @@ pub mod Statuses
 pub mod Words
 pub mod Generating
 pub mod Joining
+pub mod TopCall
+pub mod Laws

@@ -1,17 +1,15 @@
 -- That `replay` has one output on files that are told.
-use Rattle.std.specs.Prelude.{◌≡◌, List, ℕ, Option, Some, None, String}
-use Rattle.std.specs.Global.{Global}
+use Rattle.std.specs.Prelude.{◌≡◌, List, ℕ, Option, Some, None}
 use Rattle.share_base.specs.Writing.{SinkState}
 use Rattle.screen_config.specs.Configurations.{Configuration}
 use Rattle.config_text.specs.Accepting.{Accepts}
 use Rattle.script_screen.specs.Scripts.{ScriptText}
 use Rattle.script_screen.specs.Verdicts.{ScriptAccepts, TraceAccepts}
 use Rattle.script_screen.specs.declared.trace.TraceLine.{TraceLine}
-use Rattle.command_words.specs.Forms.{Replay, Names}
 use Rattle.single_output.specs.OneOutput.{OneOutput, NeverQueuesFullChunk}
 use Rattle.share_commands.specs.declared.status.Status.{Status}
 use Rattle.share_commands.specs.declared.status.Status.TheVariants as status
-use Rattle.share_commands.specs.Replaying.{Given, given_by}
+use Rattle.share_commands.specs.Replaying.{Given}
 
 -- the file is told, and this holds of its text
 abbrev pub IsTold : Option (List ℕ) → (List ℕ → Type 0) → Type 0
@@ -33,10 +31,3 @@ WritesOneOutput end given old new =
     → (config : Configuration) (script : ScriptText) (trace : List TraceLine)
     → Hold given config script trace → NeverQueuesFullChunk config script trace
     → OneOutput config script trace old new
-
--- if the words name `replay`, so it is with what their files hold
-abbrev pub HasOneOutput : {K : Type 0} → List (String Global) → Status
-    → (List ℕ → Option (List ℕ)) → (K → SinkState) → K → K → Type 0
-HasOneOutput words end told state out out' =
-    (config script trace : List ℕ) → Names (Replay config script trace) words
-    → WritesOneOutput end (given_by told config script trace) (state out) (state out')

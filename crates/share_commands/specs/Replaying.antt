@@ -1,6 +1,5 @@
 -- What `replay` makes of the files with a configuration, a script and a trace.
-use Rattle.std.specs.Prelude.{◌≡◌, ℕ, List, Option, String}
-use Rattle.std.specs.Global.{Global}
+use Rattle.std.specs.Prelude.{◌≡◌, ℕ, List, Option}
 use Rattle.share_base.specs.Counts.{one_more}
 use Rattle.share_base.specs.Writing.{SinkState}
 use Rattle.screen_config.specs.Configurations.{Configuration}
@@ -9,7 +8,6 @@ use Rattle.script_screen.specs.declared.trace.TraceLine.{TraceLine}
 use Rattle.engine_loop.specs.declared.serve_end.ServeEnd.{ServeEnd}
 use Rattle.engine_loop.specs.declared.serve_end.ServeEnd.TheVariants as ends
 use Rattle.trace_replay.specs.Replaying.{Replayed}
-use Rattle.command_words.specs.Forms.{Replay, Names}
 use Rattle.share_commands.specs.declared.status.Status.{Status}
 use Rattle.share_commands.specs.declared.status.Status.TheVariants as status
 use Rattle.share_commands.specs.Checking.{HasConfig, NoConfig}
@@ -38,21 +36,23 @@ given_by told config script trace =
 -- each end with its cause: there is no configuration, or then no script, or then no trace, and
 -- nothing was written and no further file read; or the server of the three ran over the trace and
 -- ended so
-pub data Replays (end : Status) (given : Given) (calls calls' : ℕ) (old new : SinkState) : Type 0
+pub data ReplaysFiles (end : Status) (given : Given) (calls calls' : ℕ) (old new : SinkState)
+    : Type 0
   where
     no_config : NoConfig end given.config → new ≡ old → calls' ≡ one_more calls
-        → Replays end given calls calls' old new
+        → ReplaysFiles end given calls calls' old new
     no_script : (config : Configuration) → HasConfig given.config config
         → NoScript config end given.script → new ≡ old → calls' ≡ one_more (one_more calls)
-        → Replays end given calls calls' old new
+        → ReplaysFiles end given calls calls' old new
     no_trace : (config : Configuration) (script : ScriptText) → HasConfig given.config config
         → HasScript config given.script script → NoTrace end given.trace → new ≡ old
-        → calls' ≡ one_more (one_more (one_more calls)) → Replays end given calls calls' old new
+        → calls' ≡ one_more (one_more (one_more calls))
+        → ReplaysFiles end given calls calls' old new
     ran : (config : Configuration) (script : ScriptText) (trace : List TraceLine) (ended : ServeEnd)
         → HasConfig given.config config → HasScript config given.script script
         → HasTrace given.trace trace → Replayed config script trace ended old new
         → end ≡ status_of_run ended → calls' ≡ one_more (one_more (one_more calls))
-        → Replays end given calls calls' old new
+        → ReplaysFiles end given calls calls' old new
 
 -- it ends as ok, at a text that is refused, or at a fault of the files or the output, or out of
 -- memory: no wait fails, and the trace is over before the waits are used up
@@ -65,9 +65,3 @@ IsReplayStatus status.ReadFault = Unit {0}
 IsReplayStatus status.WriteFault = Unit {0}
 IsReplayStatus status.OutOfMemory = Unit {0}
 IsReplayStatus _ = ⊥
-
--- if the words name `replay`, it ends so
-abbrev pub EndsReplay : List (String Global) → Status → Type 0
-EndsReplay words end =
-    (config script trace : List ℕ) → Names (Replay config script trace) words
-    → IsReplayStatus end

@@ -3,7 +3,7 @@
 ghost use Rattle.std.specs.Prelude.{◌≡◌};
 ghost use Rattle.generated_run.specs.Summaries.{summary_text};
 ghost use Rattle.share_commands.specs.Causes.{SinkCounts};
-ghost use Rattle.share_commands.specs.Generating.{GivesSummary, Generates, TextsAreAccepted};
+ghost use Rattle.share_commands.specs.Generating.{GivesSummary, GeneratesFrom, TextsAreAccepted};
 ghost use Rattle.share_commands.specs.Generating.{IsGoodEnd, PrintsSummary, end_of_run};
 
 use crate::checking::parse_config;
@@ -62,7 +62,7 @@ fn print_summary<K: Sink>(summary: &Summary, out: &mut K) -> Status
 /// the three texts were refused, it would end as `BadConfig`, `BadScript` or `BadTrace` at its
 /// line. Nothing is written at these, nor at `OutOfMemory`.
 pub fn run_generate<K: Sink>(alloc: Global, n: u64, out: &mut K) -> Status
-    ensures generates { Generates result n (K.state out.old) (K.state out.new) }
+    ensures generates { GeneratesFrom result n (K.state out.old) (K.state out.new) }
     ensures complete { TextsAreAccepted n → IsGoodEnd result }
     ensures causes { SinkCounts result (K.state out.old).faults (K.state out.new).faults }
 {

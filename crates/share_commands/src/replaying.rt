@@ -2,11 +2,12 @@
 
 ghost use Rattle.std.specs.Prelude.{◌≡◌, length};
 ghost use Rattle.script_screen.specs.Scripts.{IsScript, ScreensBelow};
-ghost use Rattle.share_commands.specs.Causes.{FileCauses};
-ghost use Rattle.share_commands.specs.Checking.{OverCounts};
+ghost use Rattle.share_commands.specs.Causes.{FilesCauses};
+ghost use Rattle.share_commands.specs.Reading.{CountsOvers};
 ghost use Rattle.share_commands.specs.Headline.{SharesIfRun};
 ghost use Rattle.share_commands.specs.OneOutput.{WritesOneOutput};
-ghost use Rattle.share_commands.specs.Replaying.{Replays, IsReplayStatus, given_by, status_of_run};
+ghost use Rattle.share_commands.specs.Replaying.{ReplaysFiles, IsReplayStatus};
+ghost use Rattle.share_commands.specs.Replaying.{given_by, status_of_run};
 
 use crate::checking::read_config;
 use crate::status::Status;
@@ -54,7 +55,7 @@ pub fn run_replay<F: Files, K: Sink>(
     files: &mut F,
     out: &mut K,
 ) -> Status
-    ensures replays { Replays result
+    ensures replays { ReplaysFiles result
         (given_by (F.told files.old) config.now script.now trace.now)
         (F.calls files.old) (F.calls files.new) (K.state out.old) (K.state out.new) }
     ensures headline { SharesIfRun result
@@ -64,9 +65,8 @@ pub fn run_replay<F: Files, K: Sink>(
     ensures one_output { WritesOneOutput result
         (given_by (F.told files.old) config.now script.now trace.now)
         (K.state out.old) (K.state out.new) }
-    ensures overs { OverCounts result (F.overs files.old) (F.overs files.new) }
-    ensures causes { FileCauses result (F.faults files.old) (F.faults files.new) (K.state out.old)
-        (K.state out.new) }
+    ensures overs { CountsOvers result F.Files files.old files.new }
+    ensures causes { FilesCauses result F.Files files.old files.new K.Sink out.old out.new }
 {
     let config = match read_config(alloc, config, files) {
         Ok(config) => config,
