@@ -4,7 +4,7 @@ ghost use Rattle.std.specs.Prelude.{◌≡◌, length};
 ghost use Rattle.script_screen.specs.Scripts.{ScreensBelow};
 ghost use Rattle.engine_loop.specs.Serving.{IsNewHub, HubCounts};
 ghost use Rattle.server_core.specs.Promises.{origin};
-ghost use Rattle.hub_serving.specs.Serving.{RunsServer, ServesOn, OutputCounts, end_without};
+ghost use Rattle.hub_serving.specs.Serving.{RunsServer, Runs, OutputCounts, end_without};
 
 use engine_loop::{ServeEnd, serve};
 use hub_acts::{CallFault, Hub};
@@ -55,8 +55,7 @@ fn listen_and_run<H: Hub, K: Sink>(
 ) -> ServeEnd
     requires screens { ScreensBelow (length config.screens) script }
     requires new_hub { IsNewHub (H.state hub.old) }
-    ensures { ServesOn H.state H.leads (origin config script 0) port turns result
-        hub.old hub.new (K.state out.old) (K.state out.new) }
+    ensures { Runs config script port turns result H.Hub hub.old hub.new K.Sink out.old out.new }
 {
     match hub.listen(port) {
         Ok(()) => run_server(alloc, config, script, hub, out, turns),
@@ -82,8 +81,8 @@ pub fn serve_on<H: Hub, K: Sink>(
 ) -> ServeEnd
     requires screens { ScreensBelow (length config.screens) script }
     requires new_hub { IsNewHub (H.state hub.old) }
-    ensures serves { ServesOn H.state H.leads (origin config script 0) port turns result
-        hub.old hub.new (K.state out.old) (K.state out.new) }
+    ensures serves { Runs config script port turns result H.Hub hub.old hub.new
+        K.Sink out.old out.new }
     ensures hub_faults { HubCounts result (H.state hub.old).faults (H.state hub.new).faults }
     ensures output_faults { OutputCounts result (K.state out.old).faults (K.state out.new).faults }
 {

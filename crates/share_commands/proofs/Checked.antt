@@ -12,27 +12,15 @@ use Rattle.config_text.proofs.Acceptance.{accepted, refused_so}
 use Rattle.share_commands.specs.declared.status.Status.{Status}
 use Rattle.share_commands.specs.declared.status.Status.TheVariants as status
 use Rattle.share_commands.specs.Commands.{IsDecided}
-use Rattle.share_commands.specs.Checking.{config_limit, too_big, HasText, SpellsConfig, Checks, OverCounts, end_of, bad_config}
-use Rattle.config_text.proofs.LineNumbers.{has_line}
-
--- ---- a refusal that names a line is none of a file that is too big
-
-with_line : (line column : ℕ) (kind : ConfigKind) (old new : ℕ) → 0 < line → new ≡ old → OverCounts (status.BadConfig line column kind) old new
-with_line zero column kind old new named same = absurd (omega (arith, named))
-with_line (suc line) column kind old new named same = same
-
-pub over_kept : (r : Result Configuration Status) (text : List ℕ) (old new : ℕ) → SpellsConfig r text → new ≡ old → OverCounts (end_of r) old new
-over_kept (Ok config) text old new spells same = same
-over_kept (Err (status.BadConfig line column kind)) text old new spells same = with_line line column kind old new (has_line text (refused line column kind) spells) same
-over_kept (Err status.OutOfMemory) text old new spells same = same
-over_kept (Err _) text old new spells same = absurd spells
+use Rattle.share_commands.specs.Reading.{HasText}
+use Rattle.share_commands.specs.Checking.{config_limit, too_big, Checks, bad_config}
 
 -- ---- a text is accepted as one configuration, or refused in one way
 
 abbrev Reading : Type 0
 Reading = Result Configuration ConfigRefusal
 
-same_config : (text : List ℕ) (a b : Configuration) → Accepts text a → Accepts text b → a ≡ b
+pub same_config : (text : List ℕ) (a b : Configuration) → Accepts text a → Accepts text b → a ≡ b
 same_config text a b x y = let same : reading text ≡ reading text = refl in let both : (let r : Reading = Ok a in r) ≡ Ok b = sym (accepted text a x) ∙ accepted text b y in cc
 
 not_both : (text : List ℕ) (c : Configuration) (r : ConfigRefusal) → Accepts text c → Refuses text r → ⊥

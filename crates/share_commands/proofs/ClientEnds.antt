@@ -15,7 +15,8 @@ use Rattle.share_commands.specs.declared.status.Status.{Status}
 use Rattle.share_commands.specs.declared.status.Status.TheVariants as status
 use Rattle.share_commands.specs.Causes.{SinkCounts, FileCauses}
 use Rattle.share_commands.specs.Texts.{NoClientScript}
-use Rattle.share_commands.specs.Joining.{status_of_client, WritesReleased, LetsGo, LinkFaults}
+use Rattle.share_commands.specs.Endings.{status_of_client}
+use Rattle.share_commands.specs.Joining.{WritesReleased, LetsGo, LinkFaults}
 
 -- ---- nothing was written
 

@@ -22,7 +22,7 @@ use Rattle.share_commands.specs.Texts.{SpellsScript, SpellsTrace}
 use Rattle.generated_run.specs.declared.summary.Summary.{Summary}
 use Rattle.generated_run.specs.Summaries.{summary_text}
 use Rattle.share_commands.specs.Causes.{SinkCounts}
-use Rattle.share_commands.specs.Generating.{IsSummary, NoSummary, IsGoodEnd, PrintsSummary, Generates}
+use Rattle.share_commands.specs.Generating.{IsSummary, NoSummary, IsGoodEnd, PrintsSummary, GeneratesFrom}
 use Rattle.made_accepted.specs.Accepted.{TextsSpell}
 use Rattle.made_accepted.specs.Spoken.{made_config, made_script, made_trace}
 use Rattle.made_accepted.proofs.MadeTexts.{texts_spell, texts_fit_files}
@@ -84,7 +84,7 @@ pub good_none : (end : Status) → NoSummary end → IsGoodEnd end
 good_none status.OutOfMemory h = tt
 good_none end h = absurd h
 
-pub generates_none : (end : Status) (n : ℕ) (old new : SinkState) → NoSummary end → new ≡ old → Generates end n old new
+pub generates_none : (end : Status) (n : ℕ) (old new : SinkState) → NoSummary end → new ≡ old → GeneratesFrom end n old new
 generates_none status.Ok n old new h e = absurd h
 generates_none status.WriteFault n old new h e = absurd h
 generates_none end n old new h e = (h, e)
@@ -93,7 +93,7 @@ pub counts_none : (end : Status) (faults faults' : ℕ) → NoSummary end → fa
 counts_none status.WriteFault faults faults' h e = absurd h
 counts_none end faults faults' h e = e
 
-pub generates_some : (end : Status) (n : ℕ) (summary : Summary) (old new : SinkState) → IsSummary n summary → PrintsSummary end (summary_text summary) old new → Generates end n old new
+pub generates_some : (end : Status) (n : ℕ) (summary : Summary) (old new : SinkState) → IsSummary n summary → PrintsSummary end (summary_text summary) old new → GeneratesFrom end n old new
 generates_some status.Ok n summary old new is p = (summary, is, p)
 generates_some status.WriteFault n summary old new is p = (summary, is, p)
 generates_some end n summary old new is p = absurd p

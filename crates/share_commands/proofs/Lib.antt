@@ -5,9 +5,11 @@ pub mod Runs
 pub mod Injection
 pub mod OneEnd
 pub mod Checked
+pub mod ReadTexts
 pub mod TextLines
 pub mod SameWords
 pub mod Headline
+pub mod OneOutput
 pub mod Generated
 pub mod ServerEnds
 pub mod ServingHeadline

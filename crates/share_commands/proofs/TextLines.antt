@@ -1,9 +1,11 @@
--- The refusal of a script or a trace names a line, from 1 on, and so is none of a file that is too big.
+-- The refusal of a text names a line, from 1 on, and so is none of a file that is too big.
 use Rattle.std.proofs.Common.{◌≡◌, ℕ, zero, suc, ◌+◌, ◌<◌, Bool, true, false, nat_lt, cond, List, [], length, Result, Ok, Err, ap, inl, inr, arith}
 use Rattle.std.specs.Str.Lines.{lines}
 use Rattle.text_lines.specs.Lines.{line_text}
 use Rattle.text_lines.specs.LineByLine.{OffendsIn}
 use Rattle.screen_config.specs.Configurations.{Configuration}
+use Rattle.config_text.specs.Lines.{refused}
+use Rattle.config_text.proofs.LineNumbers.{has_line}
 use Rattle.script_screen.specs.declared.kinds.TextKind.{TextKind}
 use Rattle.script_screen.specs.declared.kinds.TextKind.TheVariants.{TooLong}
 use Rattle.script_screen.specs.declared.trace.TraceLine.{TraceLine}
@@ -14,8 +16,10 @@ use Rattle.script_screen.specs.Texts.{script_judged, script_start, client_judged
 use Rattle.script_screen.specs.Verdicts.{ScriptRefuses, ClientRefuses, TraceRefuses}
 use Rattle.share_commands.specs.declared.status.Status.{Status}
 use Rattle.share_commands.specs.declared.status.Status.TheVariants as status
-use Rattle.share_commands.specs.Checking.{OverCounts, end_of}
-use Rattle.share_commands.specs.Texts.{SpellsScript, SpellsClientScript, SpellsTrace}
+use Rattle.share_commands.specs.Reading.{Gives, end_of}
+use Rattle.share_commands.specs.Checking.{configs}
+use Rattle.share_commands.specs.Texts.{scripts, client_scripts, traces}
+use Rattle.share_commands.proofs.ReadTexts.{NamesLine}
 
 abbrev line_of : TextRefusal → ℕ
 line_of r = r.line
@@ -47,30 +51,28 @@ client_line_named text r o = offends_at client_judged [] (lines text) r o
 trace_line_named : (text : List ℕ) (r : TextRefusal) → TraceRefuses text r → 0 < r.line
 trace_line_named text r o = offends_at trace_judged [] (lines text) r o
 
--- ---- the count of files that are too big
+-- ---- the statuses that say a refusal
 
-script_kept : (line : ℕ) (k : TextKind) (old new : ℕ) → 0 < line → new ≡ old → OverCounts (status.BadScript line k) old new
-script_kept zero k old new named same = absurd (omega (arith, named))
-script_kept (suc line) k old new named same = same
+pub script_named : (config : Configuration) (result : Result ScriptText Status) (text : List ℕ) → Gives (scripts config) result text → NamesLine (end_of result)
+script_named config (Ok script) text g = tt
+script_named config (Err (status.BadScript line k)) text g = script_line_named config text (refused_at line k) g
+script_named config (Err status.OutOfMemory) text g = tt
+script_named config (Err end) text g = absurd g
 
-trace_kept : (line : ℕ) (k : TextKind) (old new : ℕ) → 0 < line → new ≡ old → OverCounts (status.BadTrace line k) old new
-trace_kept zero k old new named same = absurd (omega (arith, named))
-trace_kept (suc line) k old new named same = same
+pub client_named : (result : Result (List ClientLine) Status) (text : List ℕ) → Gives client_scripts result text → NamesLine (end_of result)
+client_named (Ok script) text g = tt
+client_named (Err (status.BadScript line k)) text g = client_line_named text (refused_at line k) g
+client_named (Err status.OutOfMemory) text g = tt
+client_named (Err end) text g = absurd g
 
-pub script_overs : (config : Configuration) (r : Result ScriptText Status) (text : List ℕ) (old new : ℕ) → SpellsScript config r text → new ≡ old → OverCounts (end_of r) old new
-script_overs config (Ok script) text old new spells same = same
-script_overs config (Err (status.BadScript line k)) text old new spells same = script_kept line k old new (script_line_named config text (refused_at line k) spells) same
-script_overs config (Err status.OutOfMemory) text old new spells same = same
-script_overs config (Err _) text old new spells same = absurd spells
+pub trace_named : (result : Result (List TraceLine) Status) (text : List ℕ) → Gives traces result text → NamesLine (end_of result)
+trace_named (Ok trace) text g = tt
+trace_named (Err (status.BadTrace line k)) text g = trace_line_named text (refused_at line k) g
+trace_named (Err status.OutOfMemory) text g = tt
+trace_named (Err end) text g = absurd g
 
-pub client_overs : (r : Result (List ClientLine) Status) (text : List ℕ) (old new : ℕ) → SpellsClientScript r text → new ≡ old → OverCounts (end_of r) old new
-client_overs (Ok script) text old new spells same = same
-client_overs (Err (status.BadScript line k)) text old new spells same = script_kept line k old new (client_line_named text (refused_at line k) spells) same
-client_overs (Err status.OutOfMemory) text old new spells same = same
-client_overs (Err _) text old new spells same = absurd spells
-
-pub trace_overs : (r : Result (List TraceLine) Status) (text : List ℕ) (old new : ℕ) → SpellsTrace r text → new ≡ old → OverCounts (end_of r) old new
-trace_overs (Ok trace) text old new spells same = same
-trace_overs (Err (status.BadTrace line k)) text old new spells same = trace_kept line k old new (trace_line_named text (refused_at line k) spells) same
-trace_overs (Err status.OutOfMemory) text old new spells same = same
-trace_overs (Err _) text old new spells same = absurd spells
+pub config_named : (result : Result Configuration Status) (text : List ℕ) → Gives configs result text → NamesLine (end_of result)
+config_named (Ok config) text g = tt
+config_named (Err (status.BadConfig line column k)) text g = has_line text (refused line column k) g
+config_named (Err status.OutOfMemory) text g = tt
+config_named (Err end) text g = absurd g

@@ -3,6 +3,10 @@ use Rattle.std.specs.Prelude.{◌≡◌, ℕ, ◌≤◌, ◌⊎◌}
 use Rattle.share_base.specs.Counts.{Rises}
 use Rattle.share_base.specs.Reading.{SourceState}
 use Rattle.share_base.specs.Writing.{SinkState}
+use Rattle.share_base.specs.declared.files.Files as files
+use Rattle.share_base.specs.declared.sink.Sink as sink
+use Rattle.share_base.specs.declared.source.Source as source
+use Rattle.hub_acts.specs.declared.hub.Hub as hub
 use Rattle.share_commands.specs.declared.status.Status.{Status}
 use Rattle.share_commands.specs.declared.status.Status.TheVariants as status
 
@@ -45,6 +49,23 @@ ReadCounts end files files' source source' =
     (FileCounts end files files' × (source' ≡ source))
     ⊎ (SourceCounts end source source' × (files' ≡ files))
 
-abbrev pub AllCauses : Status → ℕ → ℕ → SourceState → SourceState → SinkState → SinkState → Type 0
-AllCauses end files files' input input' out out' =
-    ReadCounts end files files' input.faults input'.faults × SinkCounts end out.faults out'.faults
+-- ---- the same of what shows the counts
+
+abbrev pub ReadCauses : {F S : Type 0} → Status → files.Ghosts F → F → F → source.Ghosts S → S → S
+    → Type 0
+ReadCauses end seen old new from input input' =
+    ReadCounts end (seen.faults old) (seen.faults new) (from.state input).faults
+    (from.state input').faults
+
+abbrev pub StreamCauses : {S K : Type 0} → Status → source.Ghosts S → S → S → sink.Ghosts K → K → K
+    → Type 0
+StreamCauses end from input input' to out out' =
+    Causes end (from.state input) (from.state input') (to.state out) (to.state out')
+
+abbrev pub FilesCauses : {F K : Type 0} → Status → files.Ghosts F → F → F → sink.Ghosts K → K → K
+    → Type 0
+FilesCauses end seen old new to out out' =
+    FileCauses end (seen.faults old) (seen.faults new) (to.state out) (to.state out')
+
+abbrev pub CountsHubFaults : {H : Type 0} → Status → hub.Ghosts H → H → H → Type 0
+CountsHubFaults end on old new = HubFaults end (on.state old).faults (on.state new).faults

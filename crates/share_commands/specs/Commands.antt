@@ -8,6 +8,8 @@ use Rattle.held_inputs.specs.Balanced.{Balanced, ClearAtLeaves}
 use Rattle.share_base.specs.Told.{before, after, NoneLeft, IsSet, NotSet}
 use Rattle.share_base.specs.Reading.{SourceState}
 use Rattle.share_base.specs.Writing.{SinkState, TakesFront}
+use Rattle.share_base.specs.declared.sink.Sink as sink
+use Rattle.share_base.specs.declared.source.Source as source
 use Rattle.message_codec.specs.declared.messages.Msg.{Msg}
 use Rattle.message_codec.specs.Streams.{AreBytes, plain}
 use Rattle.message_codec.specs.Verdicts.{Verdict}
@@ -80,6 +82,12 @@ pub record Reads (w : Way) (end : Status) (input input' : SourceState) (out out'
   pub messages : List Msg
   pub printed : IsPrinted end messages (printed_of w verdict)
   pub writes : Writes w end messages out out'
+
+-- so it is of what shows the bytes
+abbrev pub Streams : {S K : Type 0} → Way → Status → source.Ghosts S → S → S → sink.Ghosts K → K
+    → K → Type 0
+Streams w end from input input' to out out' =
+    Reads w end (from.state input) (from.state input') (to.state out) (to.state out')
 
 -- before the latest read no read had answered the end, and the bytes read were within the limit and
 -- decided no end

@@ -15,16 +15,21 @@ use Rattle.share_commands.specs.declared.status.Status.{Status}
 use Rattle.share_commands.specs.declared.status.Status.TheVariants as status
 use Rattle.share_commands.specs.Ways.{Way}
 
--- how a command ends where its client does
+-- how `join` ends where its client does
+abbrev pub status_of_client : ClientEnd → Status
+status_of_client end.Bye = status.Ok
+status_of_client (end.Refused which) = status.Refused which
+status_of_client (end.BadPeer place why) = status.BadPeer place why
+status_of_client (end.Lost cause) = status.Lost cause
+status_of_client end.TurnsSpent = status.TurnsSpent
+status_of_client end.LinkFault = status.LinkFault
+status_of_client end.WriteFault = status.WriteFault
+status_of_client end.OutOfMemory = status.OutOfMemory
+
+-- how `inject` does: the same, but a bad frame stands in its input
 abbrev pub status_of : ClientEnd → Status
-status_of end.Bye = status.Ok
-status_of (end.Refused which) = status.Refused which
 status_of (end.BadPeer place why) = status.BadFrames place why
-status_of (end.Lost cause) = status.Lost cause
-status_of end.TurnsSpent = status.TurnsSpent
-status_of end.LinkFault = status.LinkFault
-status_of end.WriteFault = status.WriteFault
-status_of end.OutOfMemory = status.OutOfMemory
+status_of e = status_of_client e
 
 -- the end of the client where the command ends so: the same, or where a client has no such end, the
 -- stream's

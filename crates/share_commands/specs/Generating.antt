@@ -46,11 +46,11 @@ PrintsSummary status.WriteFault text old new = TakesFront text old.taken new.tak
 PrintsSummary _ text old new = ⊥
 
 -- each end of `generate` with its cause and with what was written
-abbrev pub Generates : Status → ℕ → SinkState → SinkState → Type 0
-Generates status.Ok n old new =
+abbrev pub GeneratesFrom : Status → ℕ → SinkState → SinkState → Type 0
+GeneratesFrom status.Ok n old new =
     (summary : Summary) × IsSummary n summary
     × PrintsSummary status.Ok (summary_text summary) old new
-Generates status.WriteFault n old new =
+GeneratesFrom status.WriteFault n old new =
     (summary : Summary) × IsSummary n summary
     × PrintsSummary status.WriteFault (summary_text summary) old new
-Generates end n old new = NoSummary end × (new ≡ old)
+GeneratesFrom end n old new = NoSummary end × (new ≡ old)

@@ -5,26 +5,16 @@ use Rattle.share_base.specs.Told.{after}
 use Rattle.share_base.specs.Writing.{SinkState}
 use Rattle.message_codec.specs.declared.messages.Msg.{Msg}
 use Rattle.hub_acts.specs.Links.{LinkState}
+use Rattle.hub_acts.specs.declared.link.Link as link
 use Rattle.script_screen.specs.declared.client_script.ClientLine.{ClientLine}
 use Rattle.client_core.specs.declared.client_end.ClientEnd.{ClientEnd}
-use Rattle.client_core.specs.declared.client_end.ClientEnd.TheVariants as end
 use Rattle.client_core.specs.Happenings.{joining}
 use Rattle.client_core.specs.Kept.{Released}
 use Rattle.client_loop.specs.Joining.{Joins}
 use Rattle.share_commands.specs.declared.status.Status.{Status}
 use Rattle.share_commands.specs.declared.status.Status.TheVariants as status
+use Rattle.share_commands.specs.Endings.{status_of_client}
 use Rattle.share_commands.specs.Texts.{HasClientScript, NoClientScript}
-
--- how the command ends where its client does
-abbrev pub status_of_client : ClientEnd → Status
-status_of_client end.Bye = status.Ok
-status_of_client (end.Refused which) = status.Refused which
-status_of_client (end.BadPeer place why) = status.BadPeer place why
-status_of_client (end.Lost cause) = status.Lost cause
-status_of_client end.TurnsSpent = status.TurnsSpent
-status_of_client end.LinkFault = status.LinkFault
-status_of_client end.WriteFault = status.WriteFault
-status_of_client end.OutOfMemory = status.OutOfMemory
 
 -- the server's host and port, the client's name and size, what the file of its script holds, where
 -- it is told, and the number of turns
@@ -85,3 +75,6 @@ LinkFaults status.LinkFault old new = Rises old new
 LinkFaults status.WriteFault old new = old ≤ new
 LinkFaults status.OutOfMemory old new = old ≤ new
 LinkFaults _ old new = new ≡ old
+
+abbrev pub CountsLinkFaults : {L : Type 0} → Status → link.Ghosts L → L → L → Type 0
+CountsLinkFaults end on old new = LinkFaults end (on.state old).faults (on.state new).faults

@@ -4,9 +4,11 @@ pub mod Cores
 pub mod Shows
 pub mod Injecting
 pub mod Commands
+pub mod Reading
 pub mod Checking
 pub mod Texts
 pub mod Replaying
+pub mod OneOutput
 pub mod Headline
 pub mod Serving
 pub mod ServingHeadline
@@ -15,3 +17,5 @@ pub mod Statuses
 pub mod Words
 pub mod Generating
 pub mod Joining
+pub mod TopCall
+pub mod Laws

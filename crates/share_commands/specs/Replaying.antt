@@ -36,18 +36,32 @@ given_by told config script trace =
 -- each end with its cause: there is no configuration, or then no script, or then no trace, and
 -- nothing was written and no further file read; or the server of the three ran over the trace and
 -- ended so
-pub data Replays (end : Status) (given : Given) (calls calls' : ℕ) (old new : SinkState) : Type 0
+pub data ReplaysFiles (end : Status) (given : Given) (calls calls' : ℕ) (old new : SinkState)
+    : Type 0
   where
     no_config : NoConfig end given.config → new ≡ old → calls' ≡ one_more calls
-        → Replays end given calls calls' old new
+        → ReplaysFiles end given calls calls' old new
     no_script : (config : Configuration) → HasConfig given.config config
         → NoScript config end given.script → new ≡ old → calls' ≡ one_more (one_more calls)
-        → Replays end given calls calls' old new
+        → ReplaysFiles end given calls calls' old new
     no_trace : (config : Configuration) (script : ScriptText) → HasConfig given.config config
         → HasScript config given.script script → NoTrace end given.trace → new ≡ old
-        → calls' ≡ one_more (one_more (one_more calls)) → Replays end given calls calls' old new
+        → calls' ≡ one_more (one_more (one_more calls))
+        → ReplaysFiles end given calls calls' old new
     ran : (config : Configuration) (script : ScriptText) (trace : List TraceLine) (ended : ServeEnd)
         → HasConfig given.config config → HasScript config given.script script
         → HasTrace given.trace trace → Replayed config script trace ended old new
         → end ≡ status_of_run ended → calls' ≡ one_more (one_more (one_more calls))
-        → Replays end given calls calls' old new
+        → ReplaysFiles end given calls calls' old new
+
+-- it ends as ok, at a text that is refused, or at a fault of the files or the output, or out of
+-- memory: no wait fails, and the trace is over before the waits are used up
+abbrev pub IsReplayStatus : Status → Type 0
+IsReplayStatus status.Ok = Unit {0}
+IsReplayStatus (status.BadConfig line column kind) = Unit {0}
+IsReplayStatus (status.BadScript line kind) = Unit {0}
+IsReplayStatus (status.BadTrace line kind) = Unit {0}
+IsReplayStatus status.ReadFault = Unit {0}
+IsReplayStatus status.WriteFault = Unit {0}
+IsReplayStatus status.OutOfMemory = Unit {0}
+IsReplayStatus _ = ⊥

@@ -1,13 +1,14 @@
 //! The command that reads a configuration and prints its normal form.
 
 ghost use Rattle.std.specs.Prelude.{◌-◌, ◌<◌, ◌^◌, length};
-ghost use Rattle.share_commands.specs.Causes.{FileCounts, SinkCounts, FileCauses};
-ghost use Rattle.share_commands.specs.Checking.{ReadsConfig, SpellsConfig, ReadsOnce, OverCounts};
-ghost use Rattle.share_commands.specs.Checking.{Prints, Checks, end_of};
+ghost use Rattle.share_commands.specs.Causes.{SinkCounts, FilesCauses};
+ghost use Rattle.share_commands.specs.Checking.{Prints, Checks, configs};
+ghost use Rattle.share_commands.specs.Reading.{Gives, ReadsText, ReadsOnce, CountsOvers};
 
+use crate::reading::read_file;
 use crate::status::Status;
 use config_text::{Config, ConfigFault, ConfigKind, parse, print};
-use share_base::{FileAnswer, Files, Octets, OutOfMemory, Sink, write_all};
+use share_base::{Files, Octets, OutOfMemory, Sink, write_all};
 use std::alloc::Global;
 
 /// How many bytes a configuration has at most.
@@ -16,7 +17,7 @@ pub const CONFIG_LIMIT: u64 = 1_048_576;
 /// The configuration that the text spells, or how a command ends without it.
 pub(crate) fn parse_config(alloc: Global, text: &[u8]) -> Result<Config, Status>
     requires { length text.now < 2 ^ 32 - 1 }
-    ensures { SpellsConfig result text.now }
+    ensures { Gives configs result text.now }
 {
     match parse(alloc, text) {
         Ok(config) => Ok(config),
@@ -35,22 +36,15 @@ pub(crate) fn read_config<F: Files>(
     name: &str,
     files: &mut F,
 ) -> Result<Config, Status>
-    ensures reads { ReadsConfig result (F.told files.old name.now) }
-    ensures once { ReadsOnce (F.told files.old) (F.told files.new) (F.calls files.old)
-        (F.calls files.new) }
-    ensures overs { OverCounts (end_of result) (F.overs files.old) (F.overs files.new) }
-    ensures faults { FileCounts (end_of result) (F.faults files.old) (F.faults files.new) }
+    ensures { ReadsText configs result F.Files files.old files.new name.now }
 {
-    match files.read_all(name, CONFIG_LIMIT) {
-        FileAnswer::Bytes(text) => parse_config(alloc, text.as_slice()),
-        FileAnswer::TooBig => Err(Status::BadConfig {
-            line: 0,
-            column: 0,
-            kind: ConfigKind::TooMany,
-        }),
-        FileAnswer::Failed => Err(Status::ReadFault),
-        FileAnswer::OutOfMemory => Err(Status::OutOfMemory),
-    }
+    let too_big = Status::BadConfig {
+        line: 0,
+        column: 0,
+        kind: ConfigKind::TooMany,
+    };
+    let text = read_file(name, CONFIG_LIMIT, too_big, files)?;
+    parse_config(alloc, text.as_slice())
 }
 
 fn print_config<K: Sink>(alloc: Global, config: &Config, out: &mut K) -> Status
@@ -82,11 +76,9 @@ pub fn run_check<F: Files, K: Sink>(
 ) -> Status
     ensures checks { Checks result (F.told files.old config.now) (K.state out.old)
         (K.state out.new) }
-    ensures reads_once { ReadsOnce (F.told files.old) (F.told files.new) (F.calls files.old)
-        (F.calls files.new) }
-    ensures overs { OverCounts result (F.overs files.old) (F.overs files.new) }
-    ensures causes { FileCauses result (F.faults files.old) (F.faults files.new) (K.state out.old)
-        (K.state out.new) }
+    ensures reads_once { ReadsOnce F.Files files.old files.new }
+    ensures overs { CountsOvers result F.Files files.old files.new }
+    ensures causes { FilesCauses result F.Files files.old files.new K.Sink out.old out.new }
 {
     match read_config(alloc, config, files) {
         Ok(config) => print_config(alloc, &config, out),

@@ -6,8 +6,8 @@ ghost use Rattle.share_base.specs.Reading.{FitsRead, Reads as ReadsOnce};
 ghost use Rattle.message_codec.specs.Streams.{AreBytes};
 ghost use Rattle.share_commands.specs.Ways.{showing, injecting};
 ghost use Rattle.share_commands.specs.Cores.{FinishesCore};
-ghost use Rattle.share_commands.specs.Commands.{Reads, Stops, Releases};
-ghost use Rattle.share_commands.specs.Causes.{Causes};
+ghost use Rattle.share_commands.specs.Commands.{Streams, Stops, Releases};
+ghost use Rattle.share_commands.specs.Causes.{StreamCauses};
 
 use crate::line_core::LineCore;
 use crate::show_core::ShowCore;
@@ -51,11 +51,10 @@ fn run_over<C: LineCore + Drop, S: Source, K: Sink>(
     requires kept { C.kept core (C.way core) [] [] [] }
     requires empty { C.lines core ≡ [] }
     requires goes { C.done core ≡ None }
-    ensures reads { Reads (C.way core) result (S.state input.old) (S.state input.new)
-        (K.state out.old) (K.state out.new) }
+    ensures reads { Streams (C.way core) result S.Source input.old input.new
+        K.Sink out.old out.new }
     ensures stops { Stops (C.way core) (S.state input.old) (S.state input.new) }
-    ensures causes { Causes result (S.state input.old) (S.state input.new)
-        (K.state out.old) (K.state out.new) }
+    ensures causes { StreamCauses result S.Source input.old input.new K.Sink out.old out.new }
 {
     let mut buffer = [0u8; 4096];
     let mut total = 0;
@@ -92,11 +91,10 @@ fn run_over<C: LineCore + Drop, S: Source, K: Sink>(
 /// bytes read decide the end.
 pub fn run_show<S: Source, K: Sink>(alloc: Global, end: End, input: &mut S, out: &mut K) -> Status
     requires { NotSet (S.state input.old).ended }
-    ensures shows { Reads (showing end) result (S.state input.old) (S.state input.new)
-        (K.state out.old) (K.state out.new) }
+    ensures shows { Streams (showing end) result S.Source input.old input.new
+        K.Sink out.old out.new }
     ensures stops { Stops (showing end) (S.state input.old) (S.state input.new) }
-    ensures causes { Causes result (S.state input.old) (S.state input.new)
-        (K.state out.old) (K.state out.new) }
+    ensures causes { StreamCauses result S.Source input.old input.new K.Sink out.old out.new }
 {
     run_over(ShowCore::new(alloc, end), input, out)
 }
@@ -112,12 +110,10 @@ pub fn run_show<S: Source, K: Sink>(alloc: Global, end: End, input: &mut S, out:
 /// these is. No read is made once one answered the end, or once the bytes read decide the end.
 pub fn run_inject<S: Source, K: Sink>(alloc: Global, input: &mut S, out: &mut K) -> Status
     requires { NotSet (S.state input.old).ended }
-    ensures injects { Reads injecting result (S.state input.old) (S.state input.new)
-        (K.state out.old) (K.state out.new) }
+    ensures injects { Streams injecting result S.Source input.old input.new K.Sink out.old out.new }
     ensures stops { Stops injecting (S.state input.old) (S.state input.new) }
     ensures released { Releases result (K.state out.old) (K.state out.new) }
-    ensures causes { Causes result (S.state input.old) (S.state input.new)
-        (K.state out.old) (K.state out.new) }
+    ensures causes { StreamCauses result S.Source input.old input.new K.Sink out.old out.new }
 {
     run_over(ClientCore::injecting(alloc), input, out)
 }

@@ -3,7 +3,7 @@
 ghost use Rattle.std.specs.Prelude.{◌≡◌};
 ghost use Rattle.generated_run.specs.Summaries.{summary_text};
 ghost use Rattle.share_commands.specs.Causes.{SinkCounts};
-ghost use Rattle.share_commands.specs.Generating.{GivesSummary, Generates, IsGoodEnd};
+ghost use Rattle.share_commands.specs.Generating.{GivesSummary, GeneratesFrom, IsGoodEnd};
 ghost use Rattle.share_commands.specs.Generating.{PrintsSummary};
 
 use crate::checking::parse_config;
@@ -60,7 +60,7 @@ fn print_summary<K: Sink>(summary: &Summary, out: &mut K) -> Status
 /// It ends as `Ok` where all was written; at `WriteFault` a front of the summary is. Nothing is
 /// written at `OutOfMemory`. It has no other end: each of the three texts is accepted.
 pub fn run_generate<K: Sink>(alloc: Global, n: u64, out: &mut K) -> Status
-    ensures generates { Generates result n (K.state out.old) (K.state out.new) }
+    ensures generates { GeneratesFrom result n (K.state out.old) (K.state out.new) }
     ensures complete { IsGoodEnd result }
     ensures causes { SinkCounts result (K.state out.old).faults (K.state out.new).faults }
 {

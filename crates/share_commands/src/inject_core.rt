@@ -3,6 +3,7 @@
 ghost use Rattle.std.specs.Prelude.{◌≡◌};
 ghost use Rattle.share_commands.specs.Endings.{status_of, client_end_of};
 
+use crate::joining::status_of_client;
 use crate::line_core::LineCore;
 use crate::status::Status;
 use client_core::{ClientCore, ClientEnd, LostCause};
@@ -13,14 +14,8 @@ fn status(end: ClientEnd) -> Status
     ensures { result ≡ status_of end }
 {
     match end {
-        ClientEnd::Bye => Status::Ok,
-        ClientEnd::Refused(which) => Status::Refused(which),
         ClientEnd::BadPeer { place, reason } => Status::BadFrames { place, reason },
-        ClientEnd::Lost(cause) => Status::Lost(cause),
-        ClientEnd::TurnsSpent => Status::TurnsSpent,
-        ClientEnd::LinkFault => Status::LinkFault,
-        ClientEnd::WriteFault => Status::WriteFault,
-        ClientEnd::OutOfMemory => Status::OutOfMemory,
+        other => status_of_client(other),
     }
 }
 

@@ -1,10 +1,11 @@
 //! The command that joins a server.
 
 ghost use Rattle.std.specs.Prelude.{◌≡◌};
-ghost use Rattle.share_commands.specs.Causes.{FileCauses};
-ghost use Rattle.share_commands.specs.Checking.{OverCounts};
-ghost use Rattle.share_commands.specs.Joining.{JoinsFiles, LetsGo, LinkFaults};
-ghost use Rattle.share_commands.specs.Joining.{to_join, status_of_client};
+ghost use Rattle.share_commands.specs.Causes.{FilesCauses};
+ghost use Rattle.share_commands.specs.Reading.{CountsOvers};
+ghost use Rattle.share_commands.specs.Joining.{JoinsFiles, LetsGo, CountsLinkFaults};
+ghost use Rattle.share_commands.specs.Joining.{to_join};
+ghost use Rattle.share_commands.specs.Endings.{status_of_client};
 
 use crate::status::Status;
 use crate::texts::read_client_script;
@@ -15,7 +16,7 @@ use share_base::{Files, ScreenName, Sink};
 use std::alloc::Global;
 
 /// How the command ends where its client does.
-fn status_of_client(end: ClientEnd) -> Status
+pub(crate) fn status_of_client(end: ClientEnd) -> Status
     ensures { result ≡ status_of_client end }
 {
     match end {
@@ -58,10 +59,9 @@ pub fn run_join<F: Files, L: Link, K: Sink>(
         (F.calls files.old) (F.calls files.new) link.old link.new (K.state out.old)
         (K.state out.new) }
     ensures released { LetsGo result (K.state out.old) (K.state out.new) }
-    ensures overs { OverCounts result (F.overs files.old) (F.overs files.new) }
-    ensures causes { FileCauses result (F.faults files.old) (F.faults files.new) (K.state out.old)
-        (K.state out.new) }
-    ensures link_faults { LinkFaults result (L.state link.old).faults (L.state link.new).faults }
+    ensures overs { CountsOvers result F.Files files.old files.new }
+    ensures causes { FilesCauses result F.Files files.old files.new K.Sink out.old out.new }
+    ensures link_faults { CountsLinkFaults result L.Link link.old link.new }
 {
     let script = match read_client_script(alloc, script, files) {
         Ok(script) => script,

@@ -12,6 +12,7 @@ mod inject_core;
 mod joining;
 mod laws;
 mod line_core;
+mod reading;
 mod replaying;
 mod serving;
 mod show_core;

@@ -2,10 +2,12 @@
 
 ghost use Rattle.std.specs.Prelude.{◌≡◌, length};
 ghost use Rattle.script_screen.specs.Scripts.{IsScript, ScreensBelow};
-ghost use Rattle.share_commands.specs.Causes.{FileCauses};
-ghost use Rattle.share_commands.specs.Checking.{OverCounts};
+ghost use Rattle.share_commands.specs.Causes.{FilesCauses};
+ghost use Rattle.share_commands.specs.Reading.{CountsOvers};
 ghost use Rattle.share_commands.specs.Headline.{SharesIfRun};
-ghost use Rattle.share_commands.specs.Replaying.{Replays, given_by, status_of_run};
+ghost use Rattle.share_commands.specs.OneOutput.{WritesOneOutput};
+ghost use Rattle.share_commands.specs.Replaying.{ReplaysFiles, IsReplayStatus};
+ghost use Rattle.share_commands.specs.Replaying.{given_by, status_of_run};
 
 use crate::checking::read_config;
 use crate::status::Status;
@@ -43,7 +45,8 @@ pub(crate) fn assure_script(script: &Script)
 /// where its file is too big, and as `ReadFault` where a file could not be read: then nothing is
 /// written, and no further file is read. It ends as `Ok` where the script has quit and all
 /// connections are closed, or the trace is over; at `WriteFault` a front of the log is written, and
-/// at `OutOfMemory` too.
+/// at `OutOfMemory` too. It never ends as `HubFault` or `TurnsSpent`. If it ends as `Ok` and no
+/// full chunk of a clipboard is ever queued, what it wrote is the one output of the three files.
 pub fn run_replay<F: Files, K: Sink>(
     alloc: Global,
     config: &str,
@@ -52,15 +55,18 @@ pub fn run_replay<F: Files, K: Sink>(
     files: &mut F,
     out: &mut K,
 ) -> Status
-    ensures replays { Replays result
+    ensures replays { ReplaysFiles result
         (given_by (F.told files.old) config.now script.now trace.now)
         (F.calls files.old) (F.calls files.new) (K.state out.old) (K.state out.new) }
     ensures headline { SharesIfRun result
         (given_by (F.told files.old) config.now script.now trace.now)
         (K.state out.old) (K.state out.new) }
-    ensures overs { OverCounts result (F.overs files.old) (F.overs files.new) }
-    ensures causes { FileCauses result (F.faults files.old) (F.faults files.new) (K.state out.old)
-        (K.state out.new) }
+    ensures ends { IsReplayStatus result }
+    ensures one_output { WritesOneOutput result
+        (given_by (F.told files.old) config.now script.now trace.now)
+        (K.state out.old) (K.state out.new) }
+    ensures overs { CountsOvers result F.Files files.old files.new }
+    ensures causes { FilesCauses result F.Files files.old files.new K.Sink out.old out.new }
 {
     let config = match read_config(alloc, config, files) {
         Ok(config) => config,

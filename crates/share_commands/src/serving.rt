@@ -3,8 +3,8 @@
 ghost use Rattle.std.specs.Prelude.{◌≡◌, length};
 ghost use Rattle.script_screen.specs.Scripts.{ScreensBelow};
 ghost use Rattle.engine_loop.specs.Serving.{IsNewHub};
-ghost use Rattle.share_commands.specs.Causes.{FileCauses, HubFaults};
-ghost use Rattle.share_commands.specs.Checking.{OverCounts};
+ghost use Rattle.share_commands.specs.Causes.{FilesCauses, CountsHubFaults};
+ghost use Rattle.share_commands.specs.Reading.{CountsOvers};
 ghost use Rattle.share_commands.specs.Serving.{ServesFiles, to_serve};
 ghost use Rattle.share_commands.specs.ServingHeadline.{SharesIfServed};
 
@@ -46,10 +46,9 @@ pub fn run_serve<F: Files, H: Hub, K: Sink>(
     ensures headline { SharesIfServed H.state result
         (to_serve (F.told files.old) config.now script.now port turns)
         hub.old hub.new (K.state out.old) (K.state out.new) }
-    ensures overs { OverCounts result (F.overs files.old) (F.overs files.new) }
-    ensures causes { FileCauses result (F.faults files.old) (F.faults files.new) (K.state out.old)
-        (K.state out.new) }
-    ensures hub_faults { HubFaults result (H.state hub.old).faults (H.state hub.new).faults }
+    ensures overs { CountsOvers result F.Files files.old files.new }
+    ensures causes { FilesCauses result F.Files files.old files.new K.Sink out.old out.new }
+    ensures hub_faults { CountsHubFaults result H.Hub hub.old hub.new }
 {
     let config = match read_config(alloc, config, files) {
         Ok(config) => config,

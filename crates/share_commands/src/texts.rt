@@ -1,17 +1,16 @@
 //! The scripts and traces that a command is given by name.
 
-ghost use Rattle.std.specs.Prelude.{◌<◌, ◌^◌, ◌-◌, length, IfOk};
+ghost use Rattle.std.specs.Prelude.{IfOk};
 ghost use Rattle.script_screen.specs.Scripts.{ScreensBelow};
 ghost use Rattle.script_screen.specs.Screens.{screen_count};
-ghost use Rattle.share_commands.specs.Causes.{FileCounts};
-ghost use Rattle.share_commands.specs.Checking.{ReadsOnce, OverCounts, end_of};
-ghost use Rattle.share_commands.specs.Texts.{ReadsScript, SpellsScript, ReadsTrace, SpellsTrace};
-ghost use Rattle.share_commands.specs.Texts.{ReadsClientScript, SpellsClientScript};
+ghost use Rattle.share_commands.specs.Reading.{Gives, ReadsText};
+ghost use Rattle.share_commands.specs.Texts.{scripts, client_scripts, traces};
 
+use crate::reading::read_file;
 use crate::status::Status;
 use config_text::Config;
 use script_screen::{ClientScript, Script, TextFault, TextKind, Trace};
-use share_base::{FileAnswer, Files};
+use share_base::Files;
 use std::alloc::Global;
 
 /// How many bytes a script has at most.
@@ -23,7 +22,7 @@ pub const TRACE_LIMIT: u64 = 67_108_864;
 /// The script that the text spells, whose screens are those of `config`, or how a command ends
 /// without it.
 pub(crate) fn parse_script(alloc: Global, text: &[u8], config: &Config) -> Result<Script, Status>
-    ensures spells { SpellsScript config.now result text.now }
+    ensures spells { Gives (scripts config.now) result text.now }
     ensures known { IfOk result (ScreensBelow (screen_count config.now)) }
 {
     match script_screen::read_script(alloc, text, config) {
@@ -41,27 +40,20 @@ pub(crate) fn read_script<F: Files>(
     config: &Config,
     files: &mut F,
 ) -> Result<Script, Status>
-    ensures reads { ReadsScript config.now result (F.told files.old name.now) }
+    ensures reads { ReadsText (scripts config.now) result F.Files files.old files.new name.now }
     ensures known { IfOk result (ScreensBelow (screen_count config.now)) }
-    ensures once { ReadsOnce (F.told files.old) (F.told files.new) (F.calls files.old)
-        (F.calls files.new) }
-    ensures overs { OverCounts (end_of result) (F.overs files.old) (F.overs files.new) }
-    ensures faults { FileCounts (end_of result) (F.faults files.old) (F.faults files.new) }
 {
-    match files.read_all(name, SCRIPT_LIMIT) {
-        FileAnswer::Bytes(text) => parse_script(alloc, text.as_slice(), config),
-        FileAnswer::TooBig => Err(Status::BadScript {
-            line: 0,
-            kind: TextKind::TooLong,
-        }),
-        FileAnswer::Failed => Err(Status::ReadFault),
-        FileAnswer::OutOfMemory => Err(Status::OutOfMemory),
-    }
+    let too_big = Status::BadScript {
+        line: 0,
+        kind: TextKind::TooLong,
+    };
+    let text = read_file(name, SCRIPT_LIMIT, too_big, files)?;
+    parse_script(alloc, text.as_slice(), config)
 }
 
 /// The client script that the text spells, or how a command ends without it.
 fn parse_client_script(alloc: Global, text: &[u8]) -> Result<ClientScript, Status>
-    ensures { SpellsClientScript result text.now }
+    ensures { Gives client_scripts result text.now }
 {
     match script_screen::read_client_script(alloc, text) {
         Ok(script) => Ok(script),
@@ -76,26 +68,19 @@ pub(crate) fn read_client_script<F: Files>(
     name: &str,
     files: &mut F,
 ) -> Result<ClientScript, Status>
-    ensures reads { ReadsClientScript result (F.told files.old name.now) }
-    ensures once { ReadsOnce (F.told files.old) (F.told files.new) (F.calls files.old)
-        (F.calls files.new) }
-    ensures overs { OverCounts (end_of result) (F.overs files.old) (F.overs files.new) }
-    ensures faults { FileCounts (end_of result) (F.faults files.old) (F.faults files.new) }
+    ensures { ReadsText client_scripts result F.Files files.old files.new name.now }
 {
-    match files.read_all(name, SCRIPT_LIMIT) {
-        FileAnswer::Bytes(text) => parse_client_script(alloc, text.as_slice()),
-        FileAnswer::TooBig => Err(Status::BadScript {
-            line: 0,
-            kind: TextKind::TooLong,
-        }),
-        FileAnswer::Failed => Err(Status::ReadFault),
-        FileAnswer::OutOfMemory => Err(Status::OutOfMemory),
-    }
+    let too_big = Status::BadScript {
+        line: 0,
+        kind: TextKind::TooLong,
+    };
+    let text = read_file(name, SCRIPT_LIMIT, too_big, files)?;
+    parse_client_script(alloc, text.as_slice())
 }
 
 /// The trace that the text spells, or how a command ends without it.
 pub(crate) fn parse_trace(alloc: Global, text: &[u8]) -> Result<Trace, Status>
-    ensures { SpellsTrace result text.now }
+    ensures { Gives traces result text.now }
 {
     match script_screen::read_trace(alloc, text) {
         Ok(trace) => Ok(trace),
@@ -110,19 +95,12 @@ pub(crate) fn read_trace<F: Files>(
     name: &str,
     files: &mut F,
 ) -> Result<Trace, Status>
-    ensures reads { ReadsTrace result (F.told files.old name.now) }
-    ensures once { ReadsOnce (F.told files.old) (F.told files.new) (F.calls files.old)
-        (F.calls files.new) }
-    ensures overs { OverCounts (end_of result) (F.overs files.old) (F.overs files.new) }
-    ensures faults { FileCounts (end_of result) (F.faults files.old) (F.faults files.new) }
+    ensures { ReadsText traces result F.Files files.old files.new name.now }
 {
-    match files.read_all(name, TRACE_LIMIT) {
-        FileAnswer::Bytes(text) => parse_trace(alloc, text.as_slice()),
-        FileAnswer::TooBig => Err(Status::BadTrace {
-            line: 0,
-            kind: TextKind::TooLong,
-        }),
-        FileAnswer::Failed => Err(Status::ReadFault),
-        FileAnswer::OutOfMemory => Err(Status::OutOfMemory),
-    }
+    let too_big = Status::BadTrace {
+        line: 0,
+        kind: TextKind::TooLong,
+    };
+    let text = read_file(name, TRACE_LIMIT, too_big, files)?;
+    parse_trace(alloc, text.as_slice())
 }

@@ -1,20 +1,19 @@
 //! The top call.
 
-ghost use Rattle.std.specs.Prelude.{◌≡◌, IfSome, List, ℕ};
+ghost use Rattle.std.specs.Prelude.{◌≡◌};
 ghost use Rattle.share_base.specs.Told.{NotSet};
 ghost use Rattle.engine_loop.specs.Serving.{IsNewHub};
-ghost use Rattle.command_words.specs.Forms.{Form, Inject, Check, Replay, Names, NoForm};
-ghost use Rattle.command_words.specs.Forms.{Serve, Join, Generate};
-ghost use Rattle.share_commands.specs.Words.{Leaves, way_of};
-ghost use Rattle.share_commands.specs.Commands.{Reads, Stops, Releases};
-ghost use Rattle.share_commands.specs.Checking.{Checks, ReadsOnce, OverCounts};
-ghost use Rattle.share_commands.specs.Replaying.{Replays, given_by};
-ghost use Rattle.share_commands.specs.Headline.{SharesIfRun};
-ghost use Rattle.share_commands.specs.Serving.{ServesFiles, to_serve};
-ghost use Rattle.share_commands.specs.Joining.{JoinsFiles, LetsGo, LinkFaults, to_join};
-ghost use Rattle.share_commands.specs.Generating.{Generates};
-ghost use Rattle.share_commands.specs.Causes.{AllCauses, HubFaults};
-ghost use Rattle.share_commands.specs.ServingHeadline.{SharesIfServed};
+ghost use Rattle.command_words.specs.Forms.{Form, Inject, Names, NoForm};
+ghost use Rattle.share_commands.specs.Causes.{ReadCauses, SinkCounts, CountsHubFaults};
+ghost use Rattle.share_commands.specs.Commands.{Releases};
+ghost use Rattle.share_commands.specs.Joining.{LetsGo, CountsLinkFaults};
+ghost use Rattle.share_commands.specs.Reading.{ReadsOnce, CountsOvers};
+ghost use Rattle.share_commands.specs.Replaying.{IsReplayStatus};
+ghost use Rattle.share_commands.specs.TopCall.{IfCheck, IfReplay, IfServe, IfJoin};
+ghost use Rattle.share_commands.specs.TopCall.{DoesStream, StopsInTime, ChecksFile, Generates};
+ghost use Rattle.share_commands.specs.TopCall.{Replays, ReplayShares, HasOneOutput};
+ghost use Rattle.share_commands.specs.TopCall.{Serves, ServeShares, Joins};
+ghost use Rattle.share_commands.specs.Words.{Leaves};
 
 use crate::checking::run_check;
 use crate::commands::{run_inject, run_show};
@@ -42,65 +41,30 @@ pub fn run<F: Files, S: Source, H: Hub, L: Link, K: Sink>(
 ) -> Status
     requires input { NotSet (S.state input.old).ended }
     requires new_hub { IsNewHub (H.state hub.old) }
-    ensures does { (command : Form) → Names command words.now → IfSome (way_of command)
-        (λ way.
-        Reads way result (S.state input.old) (S.state input.new) (K.state out.old)
-        (K.state out.new)) }
-    ensures stops { (command : Form) → Names command words.now → IfSome (way_of command)
-        (λ way. Stops way (S.state input.old) (S.state input.new)) }
+    ensures does { DoesStream words.now result S.Source input.old input.new K.Sink out.old out.new }
+    ensures stops { StopsInTime words.now (S.state input.old) (S.state input.new) }
     ensures released { Names Inject words.now
         → Releases result (K.state out.old) (K.state out.new) }
-    ensures checks { (config : List ℕ) → Names (Check config) words.now
-        → Checks result (F.told files.old config) (K.state out.old) (K.state out.new) }
-    ensures reads_once { (config : List ℕ) → Names (Check config) words.now
-        → ReadsOnce (F.told files.old) (F.told files.new) (F.calls files.old) (F.calls files.new) }
-    ensures overs { (config : List ℕ) → Names (Check config) words.now
-        → OverCounts result (F.overs files.old) (F.overs files.new) }
-    ensures replays { (config script trace : List ℕ)
-        → Names (Replay config script trace) words.now
-        → Replays result (given_by (F.told files.old) config script trace)
-        (F.calls files.old) (F.calls files.new) (K.state out.old) (K.state out.new) }
-    ensures headline { (config script trace : List ℕ)
-        → Names (Replay config script trace) words.now
-        → SharesIfRun result (given_by (F.told files.old) config script trace)
-        (K.state out.old) (K.state out.new) }
-    ensures replay_overs { (config script trace : List ℕ)
-        → Names (Replay config script trace) words.now
-        → OverCounts result (F.overs files.old) (F.overs files.new) }
-    ensures serves { (config script : List ℕ) (port turns : ℕ)
-        → Names (Serve config script port turns) words.now
-        → ServesFiles H.state H.leads result
-        (to_serve (F.told files.old) config script port turns)
-        (F.calls files.old) (F.calls files.new) hub.old hub.new
-        (K.state out.old) (K.state out.new) }
-    ensures serve_headline { (config script : List ℕ) (port turns : ℕ)
-        → Names (Serve config script port turns) words.now
-        → SharesIfServed H.state result
-        (to_serve (F.told files.old) config script port turns)
-        hub.old hub.new (K.state out.old) (K.state out.new) }
-    ensures serve_overs { (config script : List ℕ) (port turns : ℕ)
-        → Names (Serve config script port turns) words.now
-        → OverCounts result (F.overs files.old) (F.overs files.new) }
-    ensures hub_faults { (config script : List ℕ) (port turns : ℕ)
-        → Names (Serve config script port turns) words.now
-        → HubFaults result (H.state hub.old).faults (H.state hub.new).faults }
-    ensures joins { (name host : List ℕ) (port w h : ℕ) (script : List ℕ) (turns : ℕ)
-        → Names (Join name host port w h script turns) words.now
-        → JoinsFiles L.state L.leads result
-        (to_join (F.told files.old) name host port w h script turns)
-        (F.calls files.old) (F.calls files.new) link.old link.new (K.state out.old)
-        (K.state out.new) }
-    ensures join_released { (name host : List ℕ) (port w h : ℕ) (script : List ℕ) (turns : ℕ)
-        → Names (Join name host port w h script turns) words.now
-        → LetsGo result (K.state out.old) (K.state out.new) }
-    ensures join_overs { (name host : List ℕ) (port w h : ℕ) (script : List ℕ) (turns : ℕ)
-        → Names (Join name host port w h script turns) words.now
-        → OverCounts result (F.overs files.old) (F.overs files.new) }
-    ensures link_faults { (name host : List ℕ) (port w h : ℕ) (script : List ℕ) (turns : ℕ)
-        → Names (Join name host port w h script turns) words.now
-        → LinkFaults result (L.state link.old).faults (L.state link.new).faults }
-    ensures generates { (n : ℕ) → Names (Generate n) words.now
-        → Generates result n (K.state out.old) (K.state out.new) }
+    ensures checks { ChecksFile words.now result (F.told files.old) K.Sink out.old out.new }
+    ensures reads_once { IfCheck words.now (ReadsOnce F.Files files.old files.new) }
+    ensures overs { IfCheck words.now (CountsOvers result F.Files files.old files.new) }
+    ensures replays { Replays words.now result F.Files files.old files.new K.Sink out.old out.new }
+    ensures headline { ReplayShares words.now result (F.told files.old) K.Sink out.old out.new }
+    ensures one_output { HasOneOutput words.now result (F.told files.old) K.Sink out.old out.new }
+    ensures replay_ends { IfReplay words.now (IsReplayStatus result) }
+    ensures replay_overs { IfReplay words.now (CountsOvers result F.Files files.old files.new) }
+    ensures serves { Serves words.now result F.Files files.old files.new H.Hub hub.old hub.new
+        K.Sink out.old out.new }
+    ensures serve_headline { ServeShares words.now result (F.told files.old) H.Hub hub.old hub.new
+        K.Sink out.old out.new }
+    ensures serve_overs { IfServe words.now (CountsOvers result F.Files files.old files.new) }
+    ensures hub_faults { IfServe words.now (CountsHubFaults result H.Hub hub.old hub.new) }
+    ensures joins { Joins words.now result F.Files files.old files.new L.Link link.old link.new
+        K.Sink out.old out.new }
+    ensures join_released { IfJoin words.now (LetsGo result (K.state out.old) (K.state out.new)) }
+    ensures join_overs { IfJoin words.now (CountsOvers result F.Files files.old files.new) }
+    ensures link_faults { IfJoin words.now (CountsLinkFaults result L.Link link.old link.new) }
+    ensures generates { Generates words.now result K.Sink out.old out.new }
     ensures usage { NoForm words.now → result ≡ Status.Usage }
     ensures untouched { NoForm words.now
         → (files.new ≡ files.old) × (input.new ≡ input.old) × (hub.new ≡ hub.old)
@@ -108,8 +72,8 @@ pub fn run<F: Files, S: Source, H: Hub, L: Link, K: Sink>(
     ensures leaves { (command : Form) → Names command words.now
         → Leaves command (files.new ≡ files.old) (input.new ≡ input.old) (hub.new ≡ hub.old)
         (link.new ≡ link.old) }
-    ensures causes { AllCauses result (F.faults files.old) (F.faults files.new)
-        (S.state input.old) (S.state input.new) (K.state out.old) (K.state out.new) }
+    ensures causes { ReadCauses result F.Files files.old files.new S.Source input.old input.new }
+    ensures write_causes { SinkCounts result (K.state out.old).faults (K.state out.new).faults }
 {
     match form(words) {
         Some(Command::Inject) => run_inject(alloc, input, out),

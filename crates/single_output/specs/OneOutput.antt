@@ -1,5 +1,6 @@
--- The law that two replays of the same files write the same.
+-- That a trace has one output: each run of the server over it that ends well writes the same.
 use Rattle.std.specs.Prelude.{◌≡◌, ℕ, List, [], ◌++◌}
+use Rattle.share_base.specs.Told.{after}
 use Rattle.share_base.specs.Writing.{SinkState}
 use Rattle.screen_config.specs.Configurations.{Configuration}
 use Rattle.script_screen.specs.Scripts.{ScriptText}
@@ -23,10 +24,33 @@ EndsWell ends.Quit = Unit {0}
 EndsWell ends.Over = Unit {0}
 EndsWell end = ⊥
 
-abbrev pub OneOutput : Type 0
-OneOutput =
-    (config : Configuration) (script : ScriptText) (trace : List TraceLine)
-    (one other : ServeEnd) (old new new' : SinkState) → EndsWell one → EndsWell other
-    → (r : Replayed config script trace one old new)
+-- no run over the trace that ends well queues a full chunk
+abbrev pub NeverQueuesFullChunk : Configuration → ScriptText → List TraceLine → Type 0
+NeverQueuesFullChunk config script trace =
+    (end : ServeEnd) (old new : SinkState) → EndsWell end
+    → (r : Replayed config script trace end old new)
     → QueuesNoFullChunk (first_of config script) (r.run ++ r.leaves)
-    → Replayed config script trace other old new' → new'.taken ≡ new.taken
+
+-- an output was written, and each run over the trace that ends well writes that output
+pub record OneOutput (config : Configuration) (script : ScriptText) (trace : List TraceLine)
+    (old new : SinkState) : Type 0 where
+  pub output : List ℕ
+  pub written : new.taken ≡ after old.taken output
+  pub alone : (end : ServeEnd) (old' new' : SinkState) → EndsWell end
+      → Replayed config script trace end old' new' → new'.taken ≡ after old'.taken output
+
+-- what one run that ends well and queues no full chunk writes is the one output
+abbrev pub WriteAlike : Type 0
+WriteAlike =
+    (config : Configuration) (script : ScriptText) (trace : List TraceLine) (end : ServeEnd)
+    (old new : SinkState) → EndsWell end → (r : Replayed config script trace end old new)
+    → QueuesNoFullChunk (first_of config script) (r.run ++ r.leaves)
+    → OneOutput config script trace old new
+
+-- if one run that ends well queues no full chunk, none does
+abbrev pub QueueAlike : Type 0
+QueueAlike =
+    (config : Configuration) (script : ScriptText) (trace : List TraceLine) (end : ServeEnd)
+    (old new : SinkState) → EndsWell end → (r : Replayed config script trace end old new)
+    → QueuesNoFullChunk (first_of config script) (r.run ++ r.leaves)
+    → NeverQueuesFullChunk config script trace

@@ -1,9 +1,10 @@
-//! What holds of two replays of the same files.
+//! What holds of all replays of the same files.
 
-ghost use Rattle.single_output.specs.OneOutput.{OneOutput};
+ghost use Rattle.single_output.specs.OneOutput.{WriteAlike, QueueAlike};
 
-/// Two replays of the same configuration, script and trace that end well write the same, where no
-/// queue has a full chunk of a clipboard in it.
+/// All replays of the same configuration, script and trace that end well write the same, if in one
+/// of them no queue has a full chunk of a clipboard in it; then in none of them a queue has one.
 pub fn one_output()
-    ensures { OneOutput }
+    ensures output { WriteAlike }
+    ensures queues { QueueAlike }
 {}

@@ -26,3 +26,9 @@ pub record ReplayedWith (config : Configuration) (script : ScriptText) (trace : 
     (end : ServeEnd) (switches : ℕ) (old new : SinkState) : Type 0 where
   pub run : Replayed config script trace end old new
   pub are_switches : AreSwitches end switches run.last.state
+
+-- how that run ended, and the number of switches, as a call returns both
+abbrev pub ReturnsReplay : Configuration → ScriptText → List TraceLine → ServeEnd × ℕ → SinkState
+    → SinkState → Type 0
+ReturnsReplay config script trace returned old new =
+    ReplayedWith config script trace returned.0 returned.1 old new

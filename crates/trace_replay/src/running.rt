@@ -4,7 +4,7 @@ ghost use Rattle.std.specs.Prelude.{◌≡◌, ◌+◌, length};
 ghost use Rattle.script_screen.specs.Scripts.{ScreensBelow};
 ghost use Rattle.script_screen.specs.Traces.{IsTrace};
 ghost use Rattle.trace_replay.specs.Replaying.{Replayed, turns_of, is_turn};
-ghost use Rattle.trace_replay.specs.Switches.{ReplayedWith, IsReplayEnd};
+ghost use Rattle.trace_replay.specs.Switches.{ReturnsReplay, IsReplayEnd};
 
 use engine_loop::{ServeEnd, serve};
 use hub_mem::MemoryHub;
@@ -41,7 +41,7 @@ pub fn replay_with_switches<K: Sink>(
     out: &mut K,
 ) -> (ServeEnd, u32)
     requires { ScreensBelow (length config.screens) script }
-    ensures replayed { ReplayedWith config script trace result.0 result.1 (K.state out.old)
+    ensures replayed { ReturnsReplay config script trace result (K.state out.old)
         (K.state out.new) }
     ensures ends { IsReplayEnd result.0 }
 {
@@ -61,7 +61,7 @@ pub fn replay_with_switches<K: Sink>(
 ///
 /// It ends as `Quit` where the script has quit and every connection was closed, and as `Over` where
 /// the trace ended before that; as `WriteFault` where the output failed, and has a front of the log
-/// then.
+/// then. It ends neither as `TurnsSpent` nor as `HubFault`.
 pub fn replay<K: Sink>(
     alloc: Global,
     config: Config,
@@ -70,7 +70,8 @@ pub fn replay<K: Sink>(
     out: &mut K,
 ) -> ServeEnd
     requires { ScreensBelow (length config.screens) script }
-    ensures { Replayed config script trace result (K.state out.old) (K.state out.new) }
+    ensures replayed { Replayed config script trace result (K.state out.old) (K.state out.new) }
+    ensures ends { IsReplayEnd result }
 {
     replay_with_switches(alloc, config, script, trace, out).0
 }

@@ -1,5 +1,5 @@
-use Rattle.single_output.proofs.OneOutput.{one-output}
+use Rattle.single_output.proofs.OneOutput.{write-alike, queue-alike}
 use Rattle.single_output.proofs.laws.one_output.Goals as goal
 
 pub returns : goal.returns
-returns c = one-output
+returns c = record { output = write-alike; queues = queue-alike }

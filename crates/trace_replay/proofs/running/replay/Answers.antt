@@ -1,4 +1,5 @@
 use Rattle.trace_replay.proofs.running.replay.Goals as goal
 
 pub returns : goal.returns
-returns g c = c.replay_with_switches.ensures.replayed.run
+returns g c =
+    record { replayed = c.replay_with_switches.ensures.replayed.run; ends = c.replay_with_switches.ensures.ends }
