@@ -1,8 +1,7 @@
 -- What a file with a configuration decides.
-use Rattle.std.proofs.Common.{◌≡◌, ℕ, zero, suc, ◌<◌, ◌≤◌, List, length, Result, Ok, Err, Some, refl, ap, sym, subst, ◌∙◌, inl, inr, arith}
+use Rattle.std.proofs.Common.{◌≡◌, ℕ, ◌<◌, ◌≤◌, List, length, Result, Ok, Err, Some, refl, ap, sym, subst, ◌∙◌, inl, inr, arith}
 use Rattle.share_base.specs.Told.{after}
 use Rattle.share_base.specs.Writing.{SinkState}
-use Rattle.config_text.specs.declared.faults.ConfigKind.{ConfigKind}
 use Rattle.config_text.specs.declared.faults.ConfigRefusal.{ConfigRefusal}
 use Rattle.screen_config.specs.Configurations.{Configuration}
 use Rattle.config_text.specs.Accepting.{Accepts, Refuses}

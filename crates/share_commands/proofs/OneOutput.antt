@@ -1,5 +1,5 @@
 -- A replay of files that are told has one output, and how a replay may end.
-use Rattle.std.proofs.Common.{◌≡◌, ◌≤◌, ℕ, List, [], length, Option, Some, None, sym, subst}
+use Rattle.std.proofs.Common.{◌≡◌, ℕ, List, [], Option, Some, None, sym, subst}
 use Rattle.share_base.specs.Writing.{SinkState}
 use Rattle.screen_config.specs.Configurations.{Configuration}
 use Rattle.config_text.specs.Accepting.{Accepts}

@@ -1,5 +1,5 @@
 -- The refusal of a text names a line, from 1 on, and so is none of a file that is too big.
-use Rattle.std.proofs.Common.{◌≡◌, ℕ, zero, suc, ◌+◌, ◌<◌, Bool, true, false, nat_lt, cond, List, [], length, Result, Ok, Err, ap, inl, inr, arith}
+use Rattle.std.proofs.Common.{◌≡◌, ℕ, ◌+◌, ◌<◌, Bool, true, false, nat_lt, cond, List, [], length, Result, Ok, Err, ap, inl, inr, arith}
 use Rattle.std.specs.Str.Lines.{lines}
 use Rattle.text_lines.specs.Lines.{line_text}
 use Rattle.text_lines.specs.LineByLine.{OffendsIn}

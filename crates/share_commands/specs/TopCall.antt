@@ -1,5 +1,5 @@
 -- What the top call does for each command that its words name.
-use Rattle.std.specs.Prelude.{◌≡◌, ℕ, List, Option, IfSome, String}
+use Rattle.std.specs.Prelude.{ℕ, List, Option, IfSome, String}
 use Rattle.std.specs.Global.{Global}
 use Rattle.share_base.specs.Reading.{SourceState}
 use Rattle.share_base.specs.declared.files.Files as files
@@ -7,7 +7,7 @@ use Rattle.share_base.specs.declared.sink.Sink as sink
 use Rattle.share_base.specs.declared.source.Source as source
 use Rattle.hub_acts.specs.declared.hub.Hub as hub
 use Rattle.hub_acts.specs.declared.link.Link as link
-use Rattle.command_words.specs.Forms.{Form, Inject, Check, Replay, Serve, Join, Generate, Names}
+use Rattle.command_words.specs.Forms.{Form, Check, Replay, Serve, Join, Generate, Names}
 use Rattle.share_commands.specs.declared.status.Status.{Status}
 use Rattle.share_commands.specs.Words.{way_of}
 use Rattle.share_commands.specs.Commands.{Reads, Stops}
