@@ -13,7 +13,7 @@ pub returns-clause-departs : goal.returns-clause-departs
 returns-clause-departs c = subst (λ (text : List ℕ). ClearsLog departs_in c.args.self.now (record c.args.self.now { log = text })) (sym c.clear.ensures) (departs-cleared c.args.self.now)
 
 pub returns-clause-laws : goal.returns-clause-laws
-returns-clause-laws c = clears-running c.args.self.now c.clear_log.new.self (returns-clause-serves c)
+returns-clause-laws c = clears-running c.args.self.now _ (returns-clause-serves c)
 
 pub returns-clause-laws_at_end : goal.returns-clause-laws_at_end
-returns-clause-laws_at_end c = clears-at-end c.args.self.now c.clear_log.new.self (returns-clause-departs c)
+returns-clause-laws_at_end c = clears-at-end c.args.self.now _ (returns-clause-departs c)
