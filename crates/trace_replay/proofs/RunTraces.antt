@@ -1,6 +1,6 @@
 -- A run of the loop over the hub of a trace is a run of the server over that trace.
 use Rattle.std.specs.Prelude.{◌≡◌, ℕ, List, [], ◌++◌, Option, Some}
-use Rattle.std.proofs.Common.{refl, sym, ap, subst, ◌∙◌}
+use Rattle.std.proofs.Common.{refl, sym, subst, ◌∙◌}
 use Rattle.share_base.specs.Writing.{SinkState}
 use Rattle.share_base.proofs.ToldLists.{after-nil}
 use Rattle.screen_config.specs.Configurations.{Configuration}

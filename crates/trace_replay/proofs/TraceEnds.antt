@@ -18,7 +18,7 @@ use Rattle.hub_acts.specs.declared.answers.Waited.TheVariants as waited
 use Rattle.hub_acts.specs.declared.answers.LinkWaited.{LinkWaited}
 use Rattle.hub_acts.specs.declared.marks.Mark.{Mark}
 use Rattle.hub_mem.specs.Stories.{Story, is_in_turn, turn_length, brings_turn, lines_brought, story_after, story_of}
-use Rattle.hub_mem.specs.Answers.{Played, turn_wait, trace_wait}
+use Rattle.hub_mem.specs.Answers.{Played, turn_wait}
 use Rattle.hub_mem.specs.Playing.{AreGiven, given_by, with_act}
 use Rattle.machine.specs.States.{State}
 use Rattle.attentive_acts.specs.Flags.{Flags}
@@ -27,7 +27,7 @@ use Rattle.attentive_acts.specs.Judging.{Judge, AllowsAt, Follows, judged, judge
 use Rattle.engine_loop.specs.declared.serve_end.ServeEnd.{ServeEnd}
 use Rattle.engine_loop.specs.declared.serve_end.ServeEnd.TheVariants as ends
 use Rattle.engine_loop.specs.Stages.{is_wait, waits_in}
-use Rattle.trace_replay.specs.Replaying.{Replayed, played, is_turn, turns_of, first_of}
+use Rattle.trace_replay.specs.Replaying.{Replayed, played, is_turn, first_of}
 use Rattle.trace_replay.specs.Switches.{IsReplayEnd}
 
 -- a trace of which these acts were made
