@@ -51,7 +51,9 @@ struct Case {
 }
 
 /// A case in which nothing fails.
-const fn playing(trace: &'static [u8]) -> Case {
+const fn playing(trace: &'static [u8]) -> Case
+    ensures { result.turns < 2 ^ 32 }
+{
     Case {
         trace,
         failing: &[],
