@@ -1,5 +1,5 @@
-//! Tests of the client: what it prints of a server's stream, what it answers and how it ends. They
-//! stand on what `held_inputs` and `client_core` promise alone.
+//! Tests of the client: modifiers, what it prints of a server's stream, what it answers and how it
+//! ends. They stand on what `modifier_map`, `held_inputs` and `client_core` promise alone.
 #![tactic(auto)]
 
 #[cfg(test)]
@@ -10,3 +10,5 @@ mod conversations;
 mod injecting;
 #[cfg(test)]
 mod injection;
+#[cfg(test)]
+mod modifiers;

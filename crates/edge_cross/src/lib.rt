@@ -9,8 +9,6 @@ mod corner;
 mod edge;
 mod gate;
 mod laws;
-#[cfg(test)]
-mod tests;
 
 pub use corner::in_corner;
 pub use edge::{Axis, Edge, leaves};

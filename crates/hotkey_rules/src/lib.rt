@@ -12,8 +12,6 @@ mod key_names;
 mod laws;
 mod rule;
 mod rules;
-#[cfg(test)]
-mod tests;
 mod trigger;
 
 pub use action::{Action, LockMode};

@@ -11,8 +11,6 @@ mod answers;
 mod hub;
 mod link;
 mod marks;
-#[cfg(test)]
-mod tests;
 
 pub use act::Act;
 pub use answers::{AcceptAnswer, CallFault, LinkWaited, ReadAnswer, Waited, WriteAnswer};

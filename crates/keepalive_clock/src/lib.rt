@@ -5,7 +5,5 @@
 #![tactic(auto)]
 
 mod alive;
-#[cfg(test)]
-mod tests;
 
 pub use alive::Alive;

@@ -8,3 +8,5 @@ mod hubs;
 mod joining;
 #[cfg(test)]
 mod links;
+#[cfg(test)]
+mod marks;

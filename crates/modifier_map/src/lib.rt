@@ -9,8 +9,6 @@ mod class;
 mod held_mods;
 mod laws;
 mod map;
-#[cfg(test)]
-mod tests;
 
 pub use class::{CLASSES, ModClass, key_bit};
 pub use held_mods::HeldMods;

@@ -8,8 +8,6 @@
 
 mod laws;
 mod pressed;
-#[cfg(test)]
-mod tests;
 
 pub use laws::events_are_kept;
 pub use pressed::Pressed;

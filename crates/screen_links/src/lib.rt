@@ -11,8 +11,6 @@ mod link;
 mod links;
 mod places;
 mod range;
-#[cfg(test)]
-mod tests;
 mod walk;
 
 pub use laws::{landing_is_across, one_landing, pixel_again};

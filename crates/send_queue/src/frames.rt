@@ -15,6 +15,10 @@ pub const LENGTH_BYTES: u64 = 4;
 /// How much room the buffer of a large queue has, in bytes: one and a half of what may be untaken.
 const LARGE_ROOM: usize = 25_165_824;
 
+/// Up to how much room a buffer is doubled, in bytes: a quarter of the largest, so that doubling never
+/// goes past it.
+const SMALL_ROOM: usize = 6_291_456;
+
 /// Appends the frame of a message, whose body has at most `BODY_LIMIT` bytes. `body` is scratch
 /// space: what it holds is lost. On `OutOfMemory` the bytes are unchanged.
 pub fn append_frame(bytes: &mut BytesMut, body: &mut Octets, msg: &Msg) -> Result<(), OutOfMemory>
@@ -38,11 +42,10 @@ fn make_room(bytes: &mut BytesMut, additional: usize) -> Result<(), OutOfMemory>
 {
     let wanted = bytes.len().saturating_add(additional);
     let is_there = additional <= bytes.capacity() - bytes.len();
-    if is_there || wanted <= LARGE_ROOM / 2 || wanted > LARGE_ROOM {
-        return Ok(bytes.reserve(additional)?);
-    }
-    let mut larger = BytesMut::with_capacity(*bytes.allocator(), LARGE_ROOM)?;
-    larger.extend_reserved(bytes.as_slice());
-    *bytes = larger;
-    Ok(())
+    let room = if is_there || wanted <= SMALL_ROOM || wanted > LARGE_ROOM {
+        additional
+    } else {
+        LARGE_ROOM - bytes.len()
+    };
+    Ok(bytes.reserve(room)?)
 }

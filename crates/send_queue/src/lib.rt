@@ -10,8 +10,6 @@ mod frames;
 mod laws;
 mod pushed;
 mod queue;
-#[cfg(test)]
-mod tests;
 
 pub use laws::other_targets;
 pub use pushed::Pushed;

@@ -49,6 +49,7 @@ impl ServerCore {
             (λ core. Stands nothing_told core (start config (script_of script) now)) }
         ensures runs { IfOk result (λ core. Runs (origin config script now) 0 [] core
             (start config (script_of script) now)) }
+        ensures whole { IfOk result (λ core. core.is_broken ≡ false) }
     {
         config.assure_sound();
         let width = script.w();

@@ -10,8 +10,6 @@ mod lines;
 mod local_lines;
 mod log;
 mod primary;
-#[cfg(test)]
-mod tests;
 
 pub use log::Log;
 pub use primary::Primary;

@@ -28,8 +28,6 @@ mod shape;
 mod sides;
 mod sink;
 mod source;
-#[cfg(test)]
-mod tests;
 mod words32;
 
 pub use buffer::Buffer;

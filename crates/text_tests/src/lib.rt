@@ -19,4 +19,6 @@ mod refused_configurations;
 #[cfg(test)]
 mod refused_hotkeys;
 #[cfg(test)]
+mod rules;
+#[cfg(test)]
 mod scripts;

@@ -10,8 +10,6 @@ mod frame;
 mod framer;
 mod laws;
 mod limits;
-#[cfg(test)]
-mod tests;
 
 pub use frame::put_frame;
 pub use framer::{FrameStep, Framer};

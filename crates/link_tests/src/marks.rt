@@ -1,4 +1,4 @@
-use crate::*;
+use hub_acts::*;
 use std::test::*;
 
 const READABLE: Mark = Mark::Stream {

@@ -1,4 +1,4 @@
-use super::*;
+use screen_links::*;
 use share_base::{ScreenNo, ScreenSet, Side};
 use std::test::Fail;
 

@@ -1,4 +1,4 @@
-use super::*;
+use edge_cross::*;
 use share_base::{Shape, Side};
 
 const DESK: Shape = Shape {

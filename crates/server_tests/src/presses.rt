@@ -1,4 +1,4 @@
-use super::*;
+use pressed_inputs::*;
 use modifier_map::ModClass;
 use share_base::{Button, KeyId, Mask, MouseButton, RuleNo};
 

@@ -1,4 +1,4 @@
-use super::*;
+use modifier_map::*;
 use share_base::{Button, KeyId, Mask};
 
 const SHIFT_L: KeyId = KeyId(0xefe1);

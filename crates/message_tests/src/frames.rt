@@ -1,4 +1,4 @@
-use super::*;
+use wire_frames::*;
 use share_base::Octets;
 use std::test::*;
 

@@ -1,6 +1,6 @@
 ghost use Rattle.std.specs.Prelude.{◌≤◌, ◌+◌, length};
 
-use super::*;
+use share_base::*;
 use std::test::*;
 
 #[test]

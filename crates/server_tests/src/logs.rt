@@ -1,4 +1,4 @@
-use super::*;
+use server_log::*;
 use hello_states::PartCause;
 use message_codec::Msg;
 use share_base::{ClipId, OutOfMemory, Reason, ScreenName};

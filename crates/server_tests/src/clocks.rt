@@ -1,4 +1,4 @@
-use super::*;
+use keepalive_clock::*;
 
 /// A beat of one rate is sent once, and three rates without a message are a death.
 #[test]

@@ -1,4 +1,4 @@
-use super::*;
+use send_queue::*;
 use message_codec::Msg;
 use share_base::OutOfMemory;
 use std::alloc::Global;

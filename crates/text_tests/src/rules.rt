@@ -1,4 +1,4 @@
-use super::*;
+use hotkey_rules::*;
 use share_base::{Button, KeyId, Mask, MouseButton, OutOfMemory, RuleNo, ScreenNo, Side};
 use std::alloc::Global;
 use std::test::Fail;
