@@ -1,6 +1,6 @@
 //! The start of a server.
 
-ghost use Rattle.std.specs.Prelude.{◌≡◌, [], length, IfOk};
+ghost use Rattle.std.specs.Prelude.{◌≡◌, [], false, length, IfOk};
 ghost use Rattle.share_base.specs.Shapes.{IsScreenShape};
 ghost use Rattle.script_screen.specs.Scripts.{ScreensBelow};
 ghost use Rattle.machine.specs.Acceptance as acceptance;
