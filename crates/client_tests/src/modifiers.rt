@@ -1,3 +1,5 @@
+//! Modifiers: the classes of keys, what is held, and how options map it.
+
 use modifier_map::*;
 use share_base::{Button, KeyId, Mask};
 

@@ -1,3 +1,5 @@
+//! What a wait tells of.
+
 use hub_acts::*;
 use std::test::*;
 

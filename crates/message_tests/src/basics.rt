@@ -1,3 +1,5 @@
+//! Lists, numbers, names, and the outside in memory.
+
 ghost use Rattle.std.specs.Prelude.{◌≤◌, ◌+◌, length};
 
 use share_base::*;

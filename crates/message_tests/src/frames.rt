@@ -1,3 +1,5 @@
+//! Frames of a stream that comes in pieces.
+
 use wire_frames::*;
 use share_base::Octets;
 use std::test::*;

@@ -1,3 +1,5 @@
+//! Beats, and the death of a peer that is silent.
+
 use keepalive_clock::*;
 
 /// A beat of one rate is sent once, and three rates without a message are a death.

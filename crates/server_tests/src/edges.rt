@@ -1,3 +1,5 @@
+//! Corners, edges that a motion passes, and gates.
+
 use edge_cross::*;
 use share_base::{Shape, Side};
 

@@ -1,3 +1,5 @@
+//! Places on a side, and where links lead.
+
 use screen_links::*;
 use share_base::{ScreenNo, ScreenSet, Side};
 use std::test::Fail;

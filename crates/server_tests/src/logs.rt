@@ -1,3 +1,5 @@
+//! The lines of the server's log.
+
 use server_log::*;
 use hello_states::PartCause;
 use message_codec::Msg;

@@ -1,3 +1,5 @@
+//! Keys and buttons that the script holds down.
+
 use pressed_inputs::*;
 use modifier_map::ModClass;
 use share_base::{Button, KeyId, Mask, MouseButton, RuleNo};

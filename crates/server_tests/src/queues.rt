@@ -1,3 +1,5 @@
+//! The queue of one connection.
+
 use send_queue::*;
 use message_codec::Msg;
 use share_base::OutOfMemory;

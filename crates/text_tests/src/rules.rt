@@ -1,3 +1,5 @@
+//! The rules of hotkeys, and the names of keys.
+
 use hotkey_rules::*;
 use share_base::{Button, KeyId, Mask, MouseButton, OutOfMemory, RuleNo, ScreenNo, Side};
 use std::alloc::Global;
