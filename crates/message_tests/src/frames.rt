@@ -1,8 +1,8 @@
 //! Frames of a stream that comes in pieces.
 
-use wire_frames::*;
 use share_base::Octets;
 use std::test::*;
+use wire_frames::*;
 
 const HELLO: [u8; 15] = *b"\0\0\0\x0bSynergy\0\x01\0\x06";
 

@@ -1,8 +1,8 @@
 //! The lines of the server's log.
 
-use server_log::*;
 use hello_states::PartCause;
 use message_codec::Msg;
+use server_log::*;
 use share_base::{ClipId, OutOfMemory, Reason, ScreenName};
 use std::test::*;
 

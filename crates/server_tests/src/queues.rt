@@ -1,7 +1,7 @@
 //! The queue of one connection.
 
-use send_queue::*;
 use message_codec::Msg;
+use send_queue::*;
 use share_base::OutOfMemory;
 use std::alloc::Global;
 use std::test::*;
