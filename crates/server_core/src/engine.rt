@@ -38,6 +38,7 @@ impl Engine for ServerCore {
             return Err(OutOfMemory);
         }
         let answer = self.happen(happening);
+        // Set from the answer, so that no `Ok` leaves a broken server.
         self.is_broken = answer.is_err();
         answer
     }
