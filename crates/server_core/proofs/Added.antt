@@ -4,7 +4,6 @@ use Rattle.std.specs.List.{list_any, find}
 use Rattle.std.specs.Option.{option_map_or}
 use Rattle.std.proofs.lemmas.Bool.Decides.{nat_tests}
 use Rattle.std.proofs.Common.{arith, sym, ap, ◌∙◌, subst}
-use Rattle.share_base.specs.declared.clip_id.ClipId.TheVariants.{Clipboard, Selection}
 use Rattle.message_reader.specs.Representation.{Represents}
 use Rattle.message_codec.specs.declared.messages.Msg.{Msg}
 use Rattle.hello_states.specs.declared.part_cause.PartCause.TheVariants as cause
@@ -19,10 +18,10 @@ use Rattle.machine.specs.Partings.{part}
 use Rattle.machine.specs.Acceptance.{opened, greet, accept, most_open}
 use Rattle.connection_table.specs.declared.connection.Connection as kept
 use Rattle.connection_table.specs.Calls.{Begins}
-use Rattle.connection_table.specs.Standing.{Surroundings, StandsFor, Pairs}
+use Rattle.connection_table.specs.Standing.{StandsFor, Pairs}
 use Rattle.server_core.specs.declared.server.ServerCore.{ServerCore}
 use Rattle.server_core.specs.Accepting.{AllBelow, IsNew}
-use Rattle.server_core.specs.Targets.{IsOpenIn, IsThere}
+use Rattle.server_core.specs.Targets.{IsOpenIn}
 use Rattle.server_core.specs.Standing.{Beside, around, Stands, IsBlank}
 use Prim.{search}
 

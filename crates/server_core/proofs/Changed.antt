@@ -1,5 +1,5 @@
 -- A server whose log or whose connections changed is in the state after it.
-use Rattle.std.specs.Prelude.{◌≡◌, refl, ℕ, List, [], ◌∷◌, ◌++◌}
+use Rattle.std.specs.Prelude.{◌≡◌, ℕ, List, [], ◌∷◌, ◌++◌}
 use Rattle.machine.specs.Connections.{Connection, changed}
 use Rattle.machine.specs.States.{State, LogLine}
 use Rattle.machine.specs.Screens.{change}

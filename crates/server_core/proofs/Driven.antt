@@ -14,7 +14,7 @@ use Rattle.server_engine.specs.Engines as engine
 use Rattle.server_engine.specs.Engines.{Steps}
 use Rattle.server_core.specs.declared.server.ServerCore.{ServerCore}
 use Rattle.server_core.specs.Standing.{Beside, StandsWhere, Stands}
-use Rattle.server_core.specs.Serving.{Serves, Departs}
+use Rattle.server_core.specs.Serving.{Serves}
 use Rattle.server_core.specs.Taking.{queued_for}
 use Rattle.server_core.specs.Leading.{Leads, Reads}
 use Rattle.server_core.specs.Driving.{serves_in, departs_in}

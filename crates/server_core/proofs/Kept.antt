@@ -1,5 +1,5 @@
 -- A server of which one part changed is in the state in which that part changed.
-use Rattle.std.specs.Prelude.{◌≡◌, refl, ℕ, ◌+◌, Bool, true, List, Option, None, map, drop}
+use Rattle.std.specs.Prelude.{◌≡◌, ℕ, ◌+◌, Bool, true, List, Option, None, map, drop}
 use Rattle.share_base.specs.declared.numbers.RuleNo.{RuleNo}
 use Rattle.modifier_map.specs.Presses as presses
 use Rattle.edge_cross.specs.Gates as gates
@@ -7,7 +7,6 @@ use Rattle.machine.specs.Scripts.{Line}
 use Rattle.machine.specs.States.{State, Point}
 use Rattle.machine.specs.Running.{past}
 use Rattle.pressed_inputs.specs.declared.pressed.Pressed.{Pressed}
-use Rattle.pressed_inputs.specs.Inputs.{Inputs}
 use Rattle.pressed_inputs.specs.Keeping.{Keeps}
 use Rattle.screen_crossing.specs.declared.point.Point as kept
 use Rattle.screen_crossing.specs.declared.switch_gate.SwitchGate.{SwitchGate}

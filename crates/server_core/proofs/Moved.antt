@@ -1,6 +1,6 @@
 -- A server whose cursor moved to a screen, or whose clipboards changed, is in the state after it.
-use Rattle.std.specs.Prelude.{◌≡◌, refl, ℕ, [], ◌∷◌, ◌++◌}
-use Rattle.std.proofs.Common.{sym, ap, ◌∙◌, subst}
+use Rattle.std.specs.Prelude.{◌≡◌, ℕ, []}
+use Rattle.std.proofs.Common.{ap, ◌∙◌}
 use Rattle.share_base.specs.declared.numbers.ScreenNo.{ScreenNo}
 use Rattle.clip_chunks.specs.declared.book.ClipBook.{ClipBook}
 use Rattle.clip_chunks.specs.Books as books

@@ -1,6 +1,6 @@
 -- Clients that are told a message one after another, without one of them.
-use Rattle.std.specs.Prelude.{◌≡◌, refl, ℕ, zero, suc, ◌+◌, ◌<◌, ◌≤◌, ◌==◌, Bool, true, false, not, ◌||◌, cond, get_or, List, [], ◌∷◌, ◌++◌, length, take, filter, slice_get, Option, Some, None}
-use Rattle.std.specs.List.{list_any, filter_map, cons_option}
+use Rattle.std.specs.Prelude.{◌≡◌, refl, ℕ, ◌+◌, ◌<◌, ◌≤◌, ◌==◌, Bool, true, false, not, cond, get_or, List, [], ◌∷◌, ◌++◌, length, take, filter, slice_get, Option, Some, None}
+use Rattle.std.specs.List.{filter_map, cons_option}
 use Rattle.std.specs.Option.{option_map, option_to_list}
 use Rattle.std.proofs.Common.{arith, sym, ap, ◌∙◌, subst}
 use Rattle.std.proofs.lemmas.Bool.{eqb-true, false_from_ne_true}
@@ -9,13 +9,11 @@ use Rattle.std.proofs.lemmas.Option.{slice_get_read, slice_get_past}
 use Rattle.message_codec.specs.declared.messages.Msg.{Msg}
 use Rattle.hello_states.specs.Phases.{joined_screen}
 use Rattle.machine.specs.Targets.{Target, Primary, Client, Own}
-use Rattle.machine.specs.Connections.{Connection, has_serial}
+use Rattle.machine.specs.Connections.{Connection}
 use Rattle.machine.specs.States.{State}
-use Rattle.machine.specs.Combining.{for_each}
 use Rattle.machine.specs.Screens.{screen_in}
 use Rattle.machine.specs.Routing.{route, route_all}
 use Rattle.machine.specs.Clipboards.{all_but}
-use Rattle.machine.proofs.Rules.{for_each-keeps}
 use Rattle.connection_table.specs.declared.connection.Connection as kept
 use Rattle.connection_table.specs.PhaseOf.{phase_of}
 use Rattle.connection_table.specs.Standing.{StandsFor}
@@ -25,7 +23,7 @@ use Rattle.server_core.specs.Targets.{IsThere}
 use Rattle.server_core.specs.Others.{is_other, others_among, tell_other_at}
 use Rattle.server_core.specs.Standing.{Beside, around, Stands}
 use Rattle.server_core.specs.Leading.{Leads, LeadsWhere}
-use Rattle.server_core.proofs.Indexed.{take-one, filter_map-append, pairs-at}
+use Rattle.server_core.proofs.Indexed.{take-one, filter_map-append}
 use Rattle.server_core.proofs.Loops.{for_each-append}
 use Rattle.server_core.proofs.ToldJoined.{pair-at, there-at, same-connections}
 

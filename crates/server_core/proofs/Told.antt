@@ -1,5 +1,5 @@
 -- A server that told a target a message is in the state after it.
-use Rattle.std.specs.Prelude.{◌≡◌, refl, ℕ, ◌==◌, Bool, true, false, cond, List, [], ◌∷◌, ◌++◌, Option, Some, None, if◌then◌else◌}
+use Rattle.std.specs.Prelude.{◌≡◌, refl, ℕ, ◌==◌, Bool, true, false, List, [], ◌∷◌, ◌++◌, Option, Some, None, if◌then◌else◌}
 use Rattle.std.specs.List.{find, list_any, flat_map}
 use Rattle.std.specs.Option.{option_map_or}
 use Rattle.std.proofs.Common.{arith, sym, ap, ◌∙◌, subst}
@@ -21,7 +21,7 @@ use Rattle.connection_table.proofs.Standing.{are-sent, are-other, are-found}
 use Rattle.server_log.specs.declared.primary.Primary as screen
 use Rattle.server_log.specs.Telling as logs
 use Rattle.server_core.specs.declared.server.ServerCore.{ServerCore}
-use Rattle.server_core.specs.Targets.{IsOpenIn, IsThere}
+use Rattle.server_core.specs.Targets.{IsThere}
 use Rattle.server_core.specs.Standing.{Beside, around, Stands}
 use Rattle.server_core.proofs.LogText.{log-more, log-one, log-same, told-more, told-same}
 use Prim.{search}

@@ -10,7 +10,6 @@ use Rattle.hello_states.specs.Phases.{joined_screen}
 use Rattle.machine.specs.Targets.{Target, Client, Own}
 use Rattle.machine.specs.Connections.{Connection, has_serial}
 use Rattle.machine.specs.States.{State}
-use Rattle.machine.specs.Combining.{for_each}
 use Rattle.machine.specs.Screens.{screen_in, joined_clients, is_screen_joined}
 use Rattle.machine.specs.Routing.{route, route_all}
 use Rattle.machine.proofs.Rules.{for_each-keeps}
