@@ -19,7 +19,7 @@ use Rattle.machine.specs.Steps.{drops, takes, breaks, step}
 use Rattle.machine.proofs.Rules.{choose-keeps, for_some-keeps}
 use Rattle.machine.proofs.Live.{lives_as, IsTame, PartsNone}
 use Rattle.machine.proofs.Invariant.{View, On, IsInvariant}
-use Rattle.machine.proofs.AnyButton.{any, any_origin, rules-any, lines-any}
+use Rattle.machine.proofs.AnyButton.{any, any_origin, of-connections}
 use Rattle.machine.proofs.KeepPartings.{marked-off, lose-keeps, part_slow-keeps}
 use Rattle.machine.proofs.KeepSteps.{takes-tame, got-keeps, breaks-keeps, close-keeps, moment-keeps}
 use Rattle.machine.proofs.Runs.{accept-keeps}
@@ -99,20 +99,10 @@ parted_gone c serial why now cs on h = each_gone c serial (parted why now) (λ k
         ap (λ (b : Bool). not b || is_gone (parted why now k)) other
 
 pub invariant : (c : ℕ) → IsInvariant any any_origin (Gone c)
-invariant c = record {
-  own = refl;
-  rules = λ s h. rules-any s.config.hotkeys;
-  script = λ s h. lines-any s.lines;
-  plain = λ o a t m p s k h. h;
-  input = λ o a m p b s h. h;
-  switched = λ o a to p s on h. h;
-  fell = λ p s off h. h;
-  changed = λ serial f tame same none s h. each_gone c serial f (λ k mine. kept_gone c f tame none k) s.connections h;
-  parts = λ why serial s on h. parted_gone c serial why s.at s.connections on h;
-  discards = λ serial s off h. each_gone c serial drops (λ k mine. dropped_gone c k) s.connections h;
-  logged = λ lines s h. h;
-  ahead = λ lines k s h. h;
-}
+invariant c = of-connections (λ cs. list_all (gone_if c) cs ≡ true)
+  (λ serial f tame same none cs h. each_gone c serial f (λ k mine. kept_gone c f tame none k) cs h)
+  (λ why serial now cs on h. parted_gone c serial why now cs on h)
+  (λ serial s off h. each_gone c serial drops (λ k mine. dropped_gone c k) s.connections h)
 
 pub stays-gone : (c : ℕ) (s : State) (h : Happening) → (h ≡ Joined c → ⊥) → HasGone c s → HasGone c (step s h)
 stays-gone c s (Joined serial) other k = accept-keeps (invariant c) serial s (all_append (gone_if c) s.connections (fresh serial s.at ∷ []) k (at (serial == c) refl))

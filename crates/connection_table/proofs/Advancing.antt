@@ -20,6 +20,7 @@ use Rattle.connection_table.specs.PartsTaken.{TakesPart}
 use Rattle.connection_table.specs.Tables.{is_of, ChangesAt}
 use Rattle.connection_table.specs.Standing.{Surroundings, StandsFor, IsKnown, Pairs, AreFor}
 use Rattle.connection_table.proofs.Pairs.{pairs-changed}
+use Prim.{search}
 
 -- a phase that follows a parting is one, and what uses a screen goes on using it
 pub record IsCourse (next : Phase → Phase) : Type 0 where
@@ -59,34 +60,8 @@ are-advanced a n next f ks ls cs ends keeps same here h g =
 -- ---- parts of clipboards
 
 stands-part : (a : Surroundings) (clip : ClipId) (seq : ℕ) (mark : ClipMark) (bytes : List ℕ) (whole : Option (List ℕ)) (k l : kept.Connection) (c : Connection) → StandsFor a k c → TakesPart clip seq mark bytes whole k l → StandsFor a l (with_part (part mark clip seq bytes) c)
-stands-part a Clipboard seq mark bytes whole k l c h p = subst (λ x. StandsFor a x (with_part (part mark Clipboard seq bytes) c)) (sym p.rest) (record {
-  serial = h.serial;
-  phase = h.phase;
-  known = h.known;
-  role = h.role;
-  heard = h.heard;
-  reader = h.reader;
-  clipboard = p.takes a.limit c.parts h.clipboard;
-  selection = record { limit_is = h.selection.limit_is; run_is = h.selection.run_is };
-  queue = h.queue;
-  taken = h.taken;
-  dropped = h.dropped;
-  holds = h.holds;
-})
-stands-part a Selection seq mark bytes whole k l c h p = subst (λ x. StandsFor a x (with_part (part mark Selection seq bytes) c)) (sym p.rest) (record {
-  serial = h.serial;
-  phase = h.phase;
-  known = h.known;
-  role = h.role;
-  heard = h.heard;
-  reader = h.reader;
-  clipboard = record { limit_is = h.clipboard.limit_is; run_is = h.clipboard.run_is };
-  selection = p.takes a.limit c.parts h.selection;
-  queue = h.queue;
-  taken = h.taken;
-  dropped = h.dropped;
-  holds = h.holds;
-})
+stands-part a Clipboard seq mark bytes whole k l c h p = subst (λ x. StandsFor a x (with_part (part mark Clipboard seq bytes) c)) (sym p.rest) (search (p.takes a.limit c.parts h.clipboard, h.selection.limit_is, h.selection.run_is))
+stands-part a Selection seq mark bytes whole k l c h p = subst (λ x. StandsFor a x (with_part (part mark Selection seq bytes) c)) (sym p.rest) (search (p.takes a.limit c.parts h.selection, h.clipboard.limit_is, h.clipboard.run_is))
 
 pub are-parts : (a : Surroundings) (n : ℕ) (clip : ClipId) (seq : ℕ) (mark : ClipMark) (bytes : List ℕ) (whole : Option (List ℕ)) (ks ls : List kept.Connection) (cs : List Connection) → AreFor a ks cs → ChangesAt n (TakesPart clip seq mark bytes whole) ks ls → AreFor a ls (changed n (with_part (part mark clip seq bytes)) cs)
 are-parts a n clip seq mark bytes whole ks ls cs h g =

@@ -22,6 +22,7 @@ use Rattle.connection_table.specs.Calls.{Reads}
 use Rattle.connection_table.specs.Readings.{Brings}
 use Rattle.connection_table.specs.Standing.{Surroundings, StandsFor, Pairs, AreFor}
 use Rattle.connection_table.proofs.Pairs.{pairs-changed}
+use Prim.{search}
 
 -- ---- one reader
 
@@ -54,20 +55,7 @@ abbrev pub IsSameAt : Surroundings → (ℕ → List ℕ) → (ℕ → List Msg)
 IsSameAt a received given n = (received n ≡ a.received n) × (given n ≡ a.given n)
 
 stands-heard : (a : Surroundings) (received : ℕ → List ℕ) (given : ℕ → List Msg) (k : kept.Connection) (c : Connection) → (is_live c ≡ true → IsSameAt a received given c.serial) → StandsFor a k c → StandsFor (with_heard received given a) k c
-stands-heard a received given k c same h = record {
-  serial = h.serial;
-  phase = h.phase;
-  role = h.role;
-  heard = λ on. h.heard on ∙ sym (same on).0;
-  reader = λ on. subst (Represents k.reader c.received) (sym (same on).1) (h.reader on);
-  clipboard = h.clipboard;
-  selection = h.selection;
-  queue = h.queue;
-  taken = h.taken;
-  dropped = h.dropped;
-  holds = h.holds;
-  known = h.known;
-}
+stands-heard a received given k c same h = search ((λ (on : is_live c ≡ true). h.heard on ∙ sym (same on).0), (λ (on : is_live c ≡ true). subst (Represents k.reader c.received) (sym (same on).1) (h.reader on)))
 
 here_live : (c : Connection) (cs : List Connection) → is_live c ≡ true → list_any (lives_as c.serial) (c ∷ cs) ≡ true
 here_live c cs on = let is : (c.serial == c.serial) ≡ true = grind arith in grind (arith, is, on)
@@ -100,20 +88,7 @@ abbrev pub brought : ℕ → List ℕ → Reading → Surroundings → Surroundi
 brought n piece reading a = with_heard (appended n piece a.received) (appended n reading.messages.items a.given) a
 
 stands-read : (a : Surroundings) (n : ℕ) (piece : List ℕ) (reading : Reading) (k l : kept.Connection) (c : Connection) → (c.serial == n) ≡ true → StandsFor a k c → Reads piece reading k l → StandsFor (brought n piece reading a) l (receives piece c)
-stands-read a n piece reading k l c is h r = subst (λ x. StandsFor (brought n piece reading a) x (receives piece c)) (sym r.rest) (record {
-  serial = h.serial;
-  phase = h.phase;
-  role = r.brings.role ∙ h.role;
-  heard = λ on. ap (λ bytes. bytes ++ piece) (h.heard on) ∙ sym (appended-at n c.serial piece a.received is);
-  reader = λ on. subst (Represents l.reader (c.received ++ piece)) (sym (appended-at n c.serial reading.messages.items a.given is)) (r.brings.represents c.received (a.given c.serial) (h.reader on));
-  clipboard = h.clipboard;
-  selection = h.selection;
-  queue = h.queue;
-  taken = h.taken;
-  dropped = h.dropped;
-  holds = h.holds;
-  known = h.known;
-})
+stands-read a n piece reading k l c is h r = subst (λ x. StandsFor (brought n piece reading a) x (receives piece c)) (sym r.rest) (search (r.brings.role ∙ h.role, (λ (on : is_live c ≡ true). ap (λ bytes. bytes ++ piece) (h.heard on) ∙ sym (appended-at n c.serial piece a.received is)), (λ (on : is_live c ≡ true). subst (Represents l.reader (c.received ++ piece)) (sym (appended-at n c.serial reading.messages.items a.given is)) (r.brings.represents c.received (a.given c.serial) (h.reader on)))))
 
 pub are-read : (a : Surroundings) (n : ℕ) (piece : List ℕ) (reading : Reading) (ks ls : List kept.Connection) (cs : List Connection) → AreFor a ks cs → ChangesAt n (Reads piece reading) ks ls → AreFor (brought n piece reading a) ls (changed n (receives piece) cs)
 are-read a n piece reading ks ls cs h g =

@@ -27,42 +27,17 @@ use Rattle.connection_table.specs.Calls.{Sends, Parts, Drops, Takes}
 use Rattle.connection_table.specs.Tables.{ChangesAt}
 use Rattle.connection_table.specs.Standing.{Surroundings, told, StandsFor, AreFor}
 use Rattle.connection_table.proofs.Pairs.{pairs-each, pairs-first, pairs-changed, FoundPair, pairs-find}
+use Prim.{search}
 
 -- ---- one connection
 
 -- a message more was routed to it
 stands-sent : (a : Surroundings) (o : Origin) (m : Msg) (k l : kept.Connection) (c : Connection) → StandsFor a k c → Sends m k l → StandsFor (told (entry_of o c.serial m c.taken) a) l c
-stands-sent a o m k l c h s = subst (λ x. StandsFor (told (entry_of o c.serial m c.taken) a) x c) (sym s.rest) (record {
-  serial = h.serial;
-  phase = h.phase;
-  known = h.known;
-  role = h.role;
-  heard = h.heard;
-  reader = h.reader;
-  clipboard = h.clipboard;
-  selection = h.selection;
-  queue = subst (λ t. queues.Stands l.queue (a.routed ++ entry_of o c.serial m t ∷ []) c.serial) h.taken (s.pushes.stands a.routed c.serial o h.queue);
-  taken = s.pushes.taken ∙ h.taken;
-  dropped = s.pushes.is_discarded ∙ h.dropped;
-  holds = h.holds;
-})
+stands-sent a o m k l c h s = subst (λ x. StandsFor (told (entry_of o c.serial m c.taken) a) x c) (sym s.rest) (search (subst (λ t. queues.Stands l.queue (a.routed ++ entry_of o c.serial m t ∷ []) c.serial) h.taken (s.pushes.stands a.routed c.serial o h.queue), s.pushes.taken ∙ h.taken, s.pushes.is_discarded ∙ h.dropped))
 
 -- a message was routed to another target
 pub stands-other : (a : Surroundings) (e : Entry) (k : kept.Connection) (c : Connection) → same_target e.target (Client c.serial) ≡ false → StandsFor a k c → StandsFor (told e a) k c
-stands-other a e k c other h = record {
-  serial = h.serial;
-  phase = h.phase;
-  known = h.known;
-  role = h.role;
-  heard = h.heard;
-  reader = h.reader;
-  clipboard = h.clipboard;
-  selection = h.selection;
-  queue = other-targets k.queue a.routed c.serial e other h.queue;
-  taken = h.taken;
-  dropped = h.dropped;
-  holds = h.holds;
-}
+stands-other a e k c other h = search (other-targets k.queue a.routed c.serial e other h.queue)
 
 parted-is : (cause : PartCause) (now : ℕ) (phase : Phase) → not (is_parting phase) ≡ true → parted_phase cause now phase ≡ parting_for cause now
 parted-is cause now (Greeting a) h = refl
@@ -107,20 +82,7 @@ stands-dropped a k l c off h p = subst (λ x. StandsFor a x (drops c)) (sym p.re
 })
 
 stands-taken : (a : Surroundings) (count : ℕ) (k l : kept.Connection) (c : Connection) → StandsFor a k c → Takes count k l → StandsFor a l (takes count c)
-stands-taken a count k l c h p = subst (λ x. StandsFor a x (takes count c)) (sym p.rest) (record {
-  serial = h.serial;
-  phase = h.phase;
-  known = h.known;
-  role = h.role;
-  heard = h.heard;
-  reader = h.reader;
-  clipboard = h.clipboard;
-  selection = h.selection;
-  queue = p.takes.stands a.routed c.serial h.queue;
-  taken = p.takes.taken ∙ ap (λ n. n + count) h.taken;
-  dropped = p.takes.is_discarded ∙ h.dropped;
-  holds = h.holds;
-})
+stands-taken a count k l c h p = subst (λ x. StandsFor a x (takes count c)) (sym p.rest) (search (p.takes.stands a.routed c.serial h.queue, p.takes.taken ∙ ap (λ n. n + count) h.taken, p.takes.is_discarded ∙ h.dropped))
 
 -- ---- all of them
 

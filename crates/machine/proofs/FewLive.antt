@@ -10,7 +10,7 @@ use Rattle.machine.specs.Partings.{parted}
 use Rattle.machine.specs.Steps.{drops}
 use Rattle.machine.proofs.Live.{lives_as, IsTame, parted-tame, drops-tame}
 use Rattle.machine.proofs.Invariant.{View, IsInvariant}
-use Rattle.machine.proofs.AnyButton.{any, any_origin, rules-any, lines-any}
+use Rattle.machine.proofs.AnyButton.{any, any_origin, of-connections}
 
 unfoldable pub live_count : List Connection → ℕ
 live_count [] = 0
@@ -43,20 +43,10 @@ abbrev pub FewLive : ℕ → View → Type 0
 FewLive n v = live_count v.connections ≤ n
 
 pub invariant : (n : ℕ) → IsInvariant any any_origin (FewLive n)
-invariant n = record {
-  own = refl;
-  rules = λ s h. rules-any s.config.hotkeys;
-  script = λ s h. lines-any s.lines;
-  plain = λ o a t m p s k h. h;
-  input = λ o a m p b s h. h;
-  switched = λ o a to p s on h. h;
-  fell = λ p s off h. h;
-  changed = λ serial f tame same stays s h. let less = changed-fewer serial f tame s.connections in omega arith;
-  parts = λ cause serial s on h. let less = changed-fewer serial (parted cause s.at) (parted-tame cause s.at) s.connections in omega arith;
-  discards = λ serial s off h. let less = changed-fewer serial drops drops-tame s.connections in omega arith;
-  logged = λ lines s h. h;
-  ahead = λ lines k s h. h;
-}
+invariant n = of-connections (λ cs. live_count cs ≤ n)
+  (λ serial f tame same none cs h. let less = changed-fewer serial f tame cs in omega arith)
+  (λ cause serial now cs on h. let less = changed-fewer serial (parted cause now) (parted-tame cause now) cs in omega arith)
+  (λ serial s off h. let less = changed-fewer serial drops drops-tame s.connections in omega arith)
 
 -- ---- a parting
 

@@ -7,7 +7,7 @@ use Rattle.machine.specs.Partings.{parted}
 use Rattle.machine.specs.Steps.{drops}
 use Rattle.machine.proofs.Live.{IsTame, parted-tame, drops-tame}
 use Rattle.machine.proofs.Invariant.{View, IsInvariant}
-use Rattle.machine.proofs.AnyButton.{any, any_origin, rules-any, lines-any}
+use Rattle.machine.proofs.AnyButton.{any, any_origin, of-connections}
 
 abbrev pub HasSerials : List ℕ → View → Type 0
 HasSerials those v = serials v.connections ≡ those
@@ -21,20 +21,10 @@ changed-serials serial f tame (c ∷ cs) = at (has_serial serial c) (changed-ser
     at false rest = cc
 
 pub invariant : (those : List ℕ) → IsInvariant any any_origin (HasSerials those)
-invariant those = record {
-  own = refl;
-  rules = λ s h. rules-any s.config.hotkeys;
-  script = λ s h. lines-any s.lines;
-  plain = λ o a t m p s k h. h;
-  input = λ o a m p b s h. h;
-  switched = λ o a to p s on h. h;
-  fell = λ p s off h. h;
-  changed = λ serial f tame same stays s h. changed-serials serial f tame s.connections ∙ h;
-  parts = λ cause serial s on h. changed-serials serial (parted cause s.at) (parted-tame cause s.at) s.connections ∙ h;
-  discards = λ serial s off h. changed-serials serial drops drops-tame s.connections ∙ h;
-  logged = λ lines s h. h;
-  ahead = λ lines k s h. h;
-}
+invariant those = of-connections (λ cs. serials cs ≡ those)
+  (λ serial f tame same none cs h. changed-serials serial f tame cs ∙ h)
+  (λ cause serial now cs on h. changed-serials serial (parted cause now) (parted-tame cause now) cs ∙ h)
+  (λ serial s off h. changed-serials serial drops drops-tame s.connections ∙ h)
 
 pub removed-serials : (serial : ℕ) (cs : List Connection) → serials (removed serial cs) ≡ filter (λ n. not (n == serial)) (serials cs)
 removed-serials serial [] = refl

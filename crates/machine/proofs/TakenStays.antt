@@ -10,7 +10,7 @@ use Rattle.machine.proofs.KeepSteps.{takes-tame}
 use Rattle.machine.proofs.Live.{IsTame, KeepsTaken, parted-tame, drops-tame}
 use Rattle.machine.proofs.Finding.{none_some, some_is}
 use Rattle.machine.proofs.Invariant.{View, IsInvariant}
-use Rattle.machine.proofs.AnyButton.{any, any_origin, rules-any, lines-any}
+use Rattle.machine.proofs.AnyButton.{any, any_origin, of-connections}
 
 -- where a connection has that serial, it took that many bytes
 abbrev pub HasTaken : ℕ → ℕ → List Connection → Type 0
@@ -71,20 +71,10 @@ removed_stays n count serial (d ∷ cs) h c e = by (has_serial serial d) (has_se
         none_some c (sym (none-left n cs) ∙ subst (λ (m : ℕ). with_serial n (removed m cs) ≡ Some c) is e)
 
 pub invariant : (n count : ℕ) → IsInvariant any any_origin (TakenStays n count)
-invariant n count = record {
-  own = refl;
-  rules = λ s h. rules-any s.config.hotkeys;
-  script = λ s h. lines-any s.lines;
-  plain = λ o a t m p s k h. h;
-  input = λ o a m p b s h. h;
-  switched = λ o a to p s on h. h;
-  fell = λ p s off h. h;
-  changed = λ serial f tame same stays s h. changed_stays n count serial f tame same s.connections h;
-  parts = λ cause serial s on h. changed_stays n count serial (parted cause s.at) (parted-tame cause s.at) (λ c. refl) s.connections h;
-  discards = λ serial s off h. changed_stays n count serial drops drops-tame (λ c. refl) s.connections h;
-  logged = λ lines s h. h;
-  ahead = λ lines k s h. h;
-}
+invariant n count = of-connections (HasTaken n count)
+  (λ serial f tame same none cs h. changed_stays n count serial f tame same cs h)
+  (λ cause serial now cs on h. changed_stays n count serial (parted cause now) (parted-tame cause now) (λ c. refl) cs h)
+  (λ serial s off h. changed_stays n count serial drops drops-tame (λ c. refl) s.connections h)
 
 -- ---- what is taken
 

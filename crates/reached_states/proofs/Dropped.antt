@@ -18,7 +18,7 @@ use Rattle.machine.specs.Happenings.{Happening, Joined, Got, Ended, Failed, Took
 use Rattle.machine.specs.Steps.{drops, takes, step}
 use Rattle.machine.proofs.Live.{IsTame, PartsNone, parted-tame, drops-tame}
 use Rattle.machine.proofs.Invariant.{View, On, IsInvariant}
-use Rattle.machine.proofs.AnyButton.{any, any_origin, rules-any, lines-any}
+use Rattle.machine.proofs.AnyButton.{any, any_origin, of-connections}
 use Rattle.machine.proofs.BelowLatest.{BelowLatest}
 use Rattle.machine.proofs.KeepSteps.{takes-tame, got-keeps, breaks-keeps, close-keeps, moment-keeps}
 use Rattle.machine.proofs.OpenSerials.{changed-serials, removed-serials}
@@ -73,26 +73,16 @@ changed_apart serial f tame none cs h = record {
 }
 
 invariant : IsInvariant any any_origin Apart
-invariant = record {
-  own = refl;
-  rules = λ s h. rules-any s.config.hotkeys;
-  script = λ s h. lines-any s.lines;
-  plain = λ o a t m p s k h. h;
-  input = λ o a m p b s h. h;
-  switched = λ o a to p s on h. h;
-  fell = λ p s off h. h;
-  changed = λ serial f tame same none s h. changed_apart serial f tame none s.connections h;
-  parts = λ why serial s on h. record {
-    rise = subst (Rise 0) (sym (changed-serials serial (parted why s.at) (parted-tame why s.at) s.connections)) h.rise;
-    apart = each-kept is_apart (parted why s.at) serial (λ c e. or-true (not (parted why s.at c).is_dropped)) s.connections h.apart;
-  };
-  discards = λ serial s off h. record {
+invariant = of-connections AreApart
+  (λ serial f tame same none cs h. changed_apart serial f tame none cs h)
+  (λ why serial now cs on h. record {
+    rise = subst (Rise 0) (sym (changed-serials serial (parted why now) (parted-tame why now) cs)) h.rise;
+    apart = each-kept is_apart (parted why now) serial (λ c e. or-true (not (parted why now c).is_dropped)) cs h.apart;
+  })
+  (λ serial s off h. record {
     rise = subst (Rise 0) (sym (changed-serials serial drops drops-tame s.connections)) h.rise;
     apart = dropped_apart 0 serial s.connections h.rise off h.apart;
-  };
-  logged = λ lines s h. h;
-  ahead = λ lines k s h. h;
-}
+  })
 
 opened_apart : (latest serial : ℕ) (s : State) → latest < serial → On (BelowLatest latest) s → On Apart s → On Apart (opened serial s)
 opened_apart latest serial s above below h =

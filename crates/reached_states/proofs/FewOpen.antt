@@ -24,7 +24,7 @@ use Rattle.machine.specs.Steps.{drops, takes, step}
 use Rattle.machine.proofs.Rules.{choose-keeps}
 use Rattle.machine.proofs.Live.{lives_as, IsTame, PartsNone, parted-tame, drops-tame}
 use Rattle.machine.proofs.Invariant.{View, On, IsInvariant}
-use Rattle.machine.proofs.AnyButton.{any, any_origin, rules-any, lines-any}
+use Rattle.machine.proofs.AnyButton.{any, any_origin, of-connections}
 use Rattle.machine.proofs.BelowLatest.{BelowLatest, connection_upto}
 use Rattle.machine.proofs.KeepSteps.{takes-tame, got-keeps, breaks-keeps, close-keeps, moment-keeps}
 use Rattle.machine.proofs.FirstEntries.{finds-new}
@@ -173,20 +173,10 @@ few_parted serial why now cs on h =
     }
 
 invariant : IsInvariant any any_origin Few
-invariant = record {
-  own = refl;
-  rules = λ s h. rules-any s.config.hotkeys;
-  script = λ s h. lines-any s.lines;
-  plain = λ o a t m p s k h. h;
-  input = λ o a m p b s h. h;
-  switched = λ o a to p s on h. h;
-  fell = λ p s off h. h;
-  changed = λ serial f tame same none s h. few_changed serial f tame none s.connections h;
-  parts = λ why serial s on h. few_parted serial why s.at s.connections on h;
-  discards = λ serial s off h. few_dropped serial s.connections h;
-  logged = λ lines s h. h;
-  ahead = λ lines k s h. h;
-}
+invariant = of-connections AreFew
+  (λ serial f tame same none cs h. few_changed serial f tame none cs h)
+  (λ why serial now cs on h. few_parted serial why now cs on h)
+  (λ serial s off h. few_dropped serial s.connections h)
 
 -- ---- a new connection
 

@@ -4,7 +4,6 @@ use Rattle.std.specs.List.{list_any, find}
 use Rattle.std.specs.Option.{option_map_or}
 use Rattle.std.proofs.lemmas.Bool.Decides.{nat_tests}
 use Rattle.std.proofs.Common.{arith, sym, ap, ◌∙◌, subst}
-use Rattle.share_base.specs.declared.clip_id.ClipId.TheVariants.{Clipboard, Selection}
 use Rattle.message_reader.specs.Representation.{Represents}
 use Rattle.message_codec.specs.declared.messages.Msg.{Msg}
 use Rattle.hello_states.specs.declared.part_cause.PartCause.TheVariants as cause
@@ -19,11 +18,12 @@ use Rattle.machine.specs.Partings.{part}
 use Rattle.machine.specs.Acceptance.{opened, greet, accept, most_open}
 use Rattle.connection_table.specs.declared.connection.Connection as kept
 use Rattle.connection_table.specs.Calls.{Begins}
-use Rattle.connection_table.specs.Standing.{Surroundings, StandsFor, Pairs}
+use Rattle.connection_table.specs.Standing.{StandsFor, Pairs}
 use Rattle.server_core.specs.declared.server.ServerCore.{ServerCore}
 use Rattle.server_core.specs.Accepting.{AllBelow, IsNew}
-use Rattle.server_core.specs.Targets.{IsOpenIn, IsThere}
+use Rattle.server_core.specs.Targets.{IsOpenIn}
 use Rattle.server_core.specs.Standing.{Beside, around, Stands, IsBlank}
+use Prim.{search}
 
 stands-fresh : (b : Beside) (s : State) (k : kept.Connection) (serial now limit : ℕ) → IsBlank serial b → IsNew serial s → now ≡ s.at → limit ≡ (around b s).limit → Begins k serial now limit → StandsFor (around b s) k (fresh serial s.at)
 stands-fresh b s k serial now limit blank new at is g = record {
@@ -60,29 +60,7 @@ there_added cs c Primary h = tt
 there_added cs c (Client n) h = any_added n cs c h
 
 pub stands-added : (b : Beside) (core : ServerCore) (s : State) (table : List kept.Connection) (k : kept.Connection) (serial now limit : ℕ) → IsBlank serial b → IsNew serial s → now ≡ s.at → limit ≡ (around b s).limit → Begins k serial now limit → table ≡ core.table ++ k ∷ [] → Stands b core s → Stands b (record core { table = table }) (record s { connections = s.connections ++ fresh serial s.at ∷ [] })
-stands-added b core s table k serial now limit blank new at is g e h = record {
-  config = h.config;
-  primary = h.primary;
-  primary_shape = h.primary_shape;
-  lines = h.lines;
-  ran = h.ran;
-  sleeps_until = h.sleeps_until;
-  has_quit = h.has_quit;
-  at = h.at;
-  connections = subst (λ ks. Pairs (StandsFor (around b s)) 0 ks (s.connections ++ fresh serial s.at ∷ [])) (sym e) (pairs-added (StandsFor (around b s)) 0 core.table s.connections k (fresh serial s.at) new.some new.above (stands-fresh b s k serial now limit blank new at is g) h.connections);
-  active = h.active;
-  there = there_added s.connections (fresh serial s.at) s.active h.there;
-  cursor = h.cursor;
-  sequence = h.sequence;
-  is_locked = h.is_locked;
-  gate = h.gate;
-  pressed = h.pressed;
-  clips = h.clips;
-  clips_of = h.clips_of;
-  clips_limit = h.clips_limit;
-  told = h.told;
-  log = h.log;
-}
+stands-added b core s table k serial now limit blank new at is g e h = search (subst (λ ks. Pairs (StandsFor (around b s)) 0 ks (s.connections ++ fresh serial s.at ∷ [])) (sym e) (pairs-added (StandsFor (around b s)) 0 core.table s.connections k (fresh serial s.at) new.some new.above (stands-fresh b s k serial now limit blank new at is g) h.connections), there_added s.connections (fresh serial s.at) s.active h.there)
 
 -- ---- the one that was added
 

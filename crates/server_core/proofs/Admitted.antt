@@ -1,8 +1,8 @@
 -- The answer to the greeting, by the screens that are used.
-use Rattle.std.specs.Prelude.{◌≡◌, refl, ℕ, Bool, true, false, ◌||◌, ◌==◌, List, Option, Some, None, if◌then◌else◌}
+use Rattle.std.specs.Prelude.{◌≡◌, refl, ℕ, Bool, false, ◌||◌, ◌==◌, List, Option, Some, None, if◌then◌else◌}
 use Rattle.std.specs.List.{list_any}
 use Rattle.std.specs.Option.{option_map_or}
-use Rattle.std.proofs.Common.{arith, sym, ap, ◌∙◌, subst}
+use Rattle.std.proofs.Common.{ap, ◌∙◌}
 use Rattle.share_base.specs.Screens.{has}
 use Rattle.screen_config.specs.Configurations.{Configuration, screen_of}
 use Rattle.hello_states.specs.declared.part_cause.PartCause.TheVariants as cause

@@ -1,6 +1,6 @@
 -- The lines that are ahead after one more was run.
 use Rattle.std.specs.Prelude.{◌≡◌, ℕ, ◌+◌, zero, suc, List, [], ◌∷◌, map, drop}
-use Rattle.std.proofs.Common.{arith, ap, ◌∙◌, add-one}
+use Rattle.std.proofs.Common.{ap, ◌∙◌, add-one}
 
 next : {A B : Type 0} (f : A → B) (n : ℕ) (xs : List A) (y : B) (ys : List B) → map f (drop n xs) ≡ y ∷ ys → map f (drop (suc n) xs) ≡ ys
 next f zero [] y ys e = absurd (let x : ⊥ = cc in x)

@@ -23,35 +23,14 @@ use Rattle.server_core.specs.Targets.{IsThere}
 use Rattle.server_core.specs.Leading.{Leads}
 use Rattle.server_core.specs.Serving.{Rests}
 use Rattle.server_core.specs.Receiving.{given_to, given_by}
+use Prim.{search}
 
 abbrev pub with_told : (ℕ → List ℕ) → (ℕ → List Msg) → Beside → Beside
 with_told received given b = record b { received = received; given = given }
 
 -- the same is told of those that live
 pub stands-told-of : (P : State → Type 0) (b : Beside) (core : ServerCore) (s : State) (received : ℕ → List ℕ) (given : ℕ → List Msg) → ((n : ℕ) → list_any (lives_as n) s.connections ≡ true → IsSameAt (around b s) received given n) → StandsWhere P b core s → StandsWhere P (with_told received given b) core s
-stands-told-of P b core s received given same h = record {
-  config = h.config;
-  primary = h.primary;
-  primary_shape = h.primary_shape;
-  lines = h.lines;
-  ran = h.ran;
-  sleeps_until = h.sleeps_until;
-  has_quit = h.has_quit;
-  at = h.at;
-  connections = are-heard (around b s) received given core.table s.connections same h.connections;
-  active = h.active;
-  there = h.there;
-  cursor = h.cursor;
-  sequence = h.sequence;
-  is_locked = h.is_locked;
-  gate = h.gate;
-  pressed = h.pressed;
-  clips = h.clips;
-  clips_of = h.clips_of;
-  clips_limit = h.clips_limit;
-  told = h.told;
-  log = h.log;
-}
+stands-told-of P b core s received given same h = search (are-heard (around b s) received given core.table s.connections same h.connections)
 
 -- ---- only those that live are told of
 

@@ -1,5 +1,5 @@
 -- A server whose log or whose connections changed is in the state after it.
-use Rattle.std.specs.Prelude.{◌≡◌, refl, ℕ, List, [], ◌∷◌, ◌++◌}
+use Rattle.std.specs.Prelude.{◌≡◌, ℕ, List, [], ◌∷◌, ◌++◌}
 use Rattle.machine.specs.Connections.{Connection, changed}
 use Rattle.machine.specs.States.{State, LogLine}
 use Rattle.machine.specs.Screens.{change}
@@ -11,55 +11,12 @@ use Rattle.server_core.specs.declared.server.ServerCore.{ServerCore}
 use Rattle.server_core.specs.Standing.{Beside, around, Stands}
 use Rattle.server_core.proofs.LogText.{log-one}
 use Rattle.server_core.proofs.Open.{changed-open}
+use Prim.{search}
 
 -- one line more was logged
 pub stands-logged : (b : Beside) (core : ServerCore) (s : State) (log : List ℕ) (line : LogLine) → Stands b core s → log ≡ core.log ++ log_line line → Stands b (record core { log = log }) (logs (line ∷ []) s)
-stands-logged b core s log line h e = record {
-  config = h.config;
-  primary = h.primary;
-  primary_shape = h.primary_shape;
-  lines = h.lines;
-  ran = h.ran;
-  sleeps_until = h.sleeps_until;
-  has_quit = h.has_quit;
-  at = h.at;
-  connections = h.connections;
-  active = h.active;
-  there = h.there;
-  cursor = h.cursor;
-  sequence = h.sequence;
-  is_locked = h.is_locked;
-  gate = h.gate;
-  pressed = h.pressed;
-  clips = h.clips;
-  clips_of = h.clips_of;
-  clips_limit = h.clips_limit;
-  told = h.told;
-  log = log-one b.front core.log log s.log line h.log e;
-}
+stands-logged b core s log line h e = search (log-one b.front core.log log s.log line h.log e)
 
 -- the connection of a serial changed
 pub stands-changed : (b : Beside) (core : ServerCore) (s : State) (table : List kept.Connection) (serial : ℕ) (f : Connection → Connection) → ((c : Connection) → (f c).serial ≡ c.serial) → Stands b core s → AreFor (around b s) table (changed serial f s.connections) → Stands b (record core { table = table }) (change serial f s)
-stands-changed b core s table serial f same h all = record {
-  config = h.config;
-  primary = h.primary;
-  primary_shape = h.primary_shape;
-  lines = h.lines;
-  ran = h.ran;
-  sleeps_until = h.sleeps_until;
-  has_quit = h.has_quit;
-  at = h.at;
-  connections = all;
-  active = h.active;
-  there = changed-open serial f same s.connections s.active h.there;
-  cursor = h.cursor;
-  sequence = h.sequence;
-  is_locked = h.is_locked;
-  gate = h.gate;
-  pressed = h.pressed;
-  clips = h.clips;
-  clips_of = h.clips_of;
-  clips_limit = h.clips_limit;
-  told = h.told;
-  log = h.log;
-}
+stands-changed b core s table serial f same h all = search (changed-open serial f same s.connections s.active h.there)

@@ -1,7 +1,6 @@
 -- A clipboard for which a screen isn't dirty.
-use Rattle.std.specs.Prelude.{◌≡◌, refl, ℕ, Bool, true, false, not, ◌||◌, ◌==◌, cond, List, [], ◌∷◌, filter}
-use Rattle.std.specs.List.{list_any}
-use Rattle.std.proofs.Common.{arith, ap, ◌∙◌}
+use Rattle.std.specs.Prelude.{◌≡◌, refl, ℕ, Bool, true, false, not, ◌||◌, ◌==◌, cond, List, [], ◌∷◌}
+use Rattle.std.proofs.Common.{ap, ◌∙◌}
 use Rattle.share_base.specs.declared.clip_id.ClipId.{ClipId}
 use Rattle.share_base.specs.declared.clip_id.ClipId.TheVariants.{Clipboard, Selection}
 use Rattle.clip_chunks.specs.Clips.{Clip, Clips, clip_of, with_clip, without, is_among, is_dirty}

@@ -23,6 +23,7 @@ use Rattle.server_core.specs.Targets.{IsOpenIn, IsThere}
 use Rattle.server_core.specs.Standing.{Beside, around, StandsWhere}
 use Rattle.server_core.specs.Serving.{Serves, Departs}
 use Rattle.server_core.proofs.LogText.{log-one}
+use Prim.{search}
 
 -- a target other than the one that was removed is still open
 kept_open : (n m : ℕ) (cs : List Connection) → (m == n) ≡ false → list_any (has_serial m) cs ≡ true → list_any (has_serial m) (removed n cs) ≡ true
@@ -60,29 +61,7 @@ line_of_open P b core s n k e h = by (connection s n) refl (subst (λ o. FoundPa
 -- ---- the state after it
 
 pub stands-closed : (P Q : State → Type 0) (b : Beside) (core : ServerCore) (s : State) (n : ℕ) (k : kept.Connection) (table : List kept.Connection) (log : List ℕ) → Some k ≡ find (is_of n) core.table → table ≡ without n core.table → log ≡ core.log ++ log_line (Closed n k.queue.taken k.queue.total) → Q (close n s) → StandsWhere P b core s → StandsWhere Q b (record core { table = table; log = log }) (close n s)
-stands-closed P Q b core s n k table log e is logged there h = record {
-  config = h.config;
-  primary = h.primary;
-  primary_shape = h.primary_shape;
-  lines = h.lines;
-  ran = h.ran;
-  sleeps_until = h.sleeps_until;
-  has_quit = h.has_quit;
-  at = h.at;
-  connections = subst (λ ks. AreFor (around b s) ks (removed n s.connections)) (sym is) (are-removed (around b s) n core.table s.connections h.connections);
-  active = h.active;
-  there = there;
-  cursor = h.cursor;
-  sequence = h.sequence;
-  is_locked = h.is_locked;
-  gate = h.gate;
-  pressed = h.pressed;
-  clips = h.clips;
-  clips_of = h.clips_of;
-  clips_limit = h.clips_limit;
-  told = h.told;
-  log = log-one b.front core.log log s.log (Closed n (taken_by s n) (total s.routed n)) h.log (logged ∙ ap (λ l. core.log ++ log_line l) (line_of_open P b core s n k e h));
-}
+stands-closed P Q b core s n k table log e is logged there h = search (subst (λ ks. AreFor (around b s) ks (removed n s.connections)) (sym is) (are-removed (around b s) n core.table s.connections h.connections), log-one b.front core.log log s.log (Closed n (taken_by s n) (total s.routed n)) h.log (logged ∙ ap (λ l. core.log ++ log_line l) (line_of_open P b core s n k e h)))
 
 -- ---- where no such connection is kept
 

@@ -1,5 +1,5 @@
 -- A timer that has come for a connection, or hasn't.
-use Rattle.std.specs.Prelude.{◌≡◌, refl, ℕ, Bool, true, false, not, Option, Some, None}
+use Rattle.std.specs.Prelude.{◌≡◌, refl, ℕ, true, false, not, Option, Some, None}
 use Rattle.std.specs.Option.{option_map_or}
 use Rattle.std.proofs.Common.{ap}
 use Rattle.hello_states.specs.Phases.{Phase, Greeting, Asked, Joined, Parting, is_parting, is_dead_in, is_silent, is_beat_due_in}

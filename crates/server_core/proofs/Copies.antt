@@ -18,7 +18,7 @@ use Rattle.machine.specs.Routing.{route, route_all}
 use Rattle.machine.specs.Clipboards.{set_clip, clip_limit, is_sharing, refresh, publish, copy}
 use Rattle.machine.proofs.Rules.{for_each-keeps}
 use Rattle.server_core.specs.declared.server.ServerCore.{ServerCore}
-use Rattle.server_core.specs.Standing.{Beside, Stands}
+use Rattle.server_core.specs.Standing.{Stands}
 use Rattle.server_core.specs.Leading.{Leads, Reads}
 use Rattle.server_core.proofs.Moved.{stands-clips}
 

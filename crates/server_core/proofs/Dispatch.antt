@@ -1,6 +1,5 @@
 -- Messages that a phase doesn't hear, and parts of clipboards.
 use Rattle.std.specs.Prelude.{◌≡◌, refl, ℕ, ◌≤◌, ◌<◌, true, false, List, [], length, unwrap_or, Option, Some, None}
-use Rattle.std.specs.List.{find}
 use Rattle.std.specs.Option.{option_map, option_map_or}
 use Rattle.std.proofs.Common.{arith, sym, ap, ◌∙◌, subst}
 use Rattle.share_base.specs.declared.clip_id.ClipId.{ClipId}
@@ -10,17 +9,16 @@ use Rattle.message_codec.specs.declared.messages.Msg.TheVariants as msg
 use Rattle.hello_states.specs.declared.info_fields.InfoFields.{InfoFields}
 use Rattle.hello_states.specs.Information.{shape_in}
 use Rattle.hello_states.specs.Phases.{AskedScreen, JoinedScreen}
-use Rattle.clip_chunks.specs.Parts.{Part, part}
+use Rattle.clip_chunks.specs.Parts.{part}
 use Rattle.clip_chunks.specs.OpenRuns.{whole_at}
 use Rattle.clip_chunks.proofs.EndedRuns.{ends_whole}
-use Rattle.machine.specs.Connections.{Connection, has_serial, is_live, changed}
+use Rattle.machine.specs.Connections.{Connection, is_live}
 use Rattle.machine.specs.States.{State}
 use Rattle.machine.specs.Combining.{for_some, unchanged}
 use Rattle.machine.specs.Screens.{connection, lives, change}
 use Rattle.machine.specs.Clipboards.{clip_limit, whole}
 use Rattle.machine.specs.Information.{hear_first_info, hear_later_info}
-use Rattle.machine.specs.Hearing.{with_part, parts_from, hear_part, hear_greeting, hear_asked, hear_joined}
-use Rattle.machine.proofs.Finding.{none_some}
+use Rattle.machine.specs.Hearing.{with_part, parts_from, hear_part, hear_asked, hear_joined}
 use Rattle.connection_table.specs.declared.connection.Connection as kept
 use Rattle.connection_table.specs.PartsTaken.{TakesPart}
 use Rattle.connection_table.specs.Tables.{ChangesAt}

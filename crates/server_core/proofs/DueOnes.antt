@@ -1,5 +1,5 @@
 -- Reading connections one after another: what is due of them, and which is to be closed.
-use Rattle.std.specs.Prelude.{◌≡◌, refl, ℕ, ◌+◌, ◌<◌, ◌≤◌, min, Bool, true, false, cond, fold, List, [], ◌∷◌, ◌++◌, length, take, Option, Some, None}
+use Rattle.std.specs.Prelude.{◌≡◌, refl, ℕ, ◌+◌, ◌<◌, ◌≤◌, min, Bool, true, false, cond, fold, List, [], ◌∷◌, length, take, Option, Some, None}
 use Rattle.std.specs.List.{find, flat_map}
 use Rattle.std.specs.Option.{option_map, option_or, option_to_list}
 use Rattle.std.proofs.Common.{arith, sym, ap, ◌∙◌, subst, get_or}

@@ -1,7 +1,7 @@
 -- What is read of a connection that is found by its serial.
 use Rattle.std.specs.Prelude.{◌≡◌, refl, ℕ, ◌==◌, Option, Some, None}
 use Rattle.std.specs.List.{find}
-use Rattle.std.proofs.Common.{sym, ap, ◌∙◌, subst}
+use Rattle.std.proofs.Common.{sym, ap, subst}
 use Rattle.machine.specs.Connections.{Connection, has_serial}
 use Rattle.machine.specs.States.{State}
 use Rattle.machine.specs.Screens.{connection}

@@ -7,9 +7,9 @@ use Rattle.message_codec.specs.declared.messages.Msg.TheVariants as msg
 use Rattle.clip_chunks.specs.declared.book.ClipBook.{ClipBook}
 use Rattle.clip_chunks.specs.Books as books
 use Rattle.clip_chunks.specs.Calls.{Grabbed, Sent}
-use Rattle.clip_chunks.specs.Clips.{Clips, clip_of, with_clip}
+use Rattle.clip_chunks.specs.Clips.{clip_of, with_clip}
 use Rattle.clip_chunks.specs.Rules as rules
-use Rattle.machine.specs.Targets.{Target, Client, Own}
+use Rattle.machine.specs.Targets.{Client, Own}
 use Rattle.machine.specs.States.{State}
 use Rattle.machine.specs.Combining.{when}
 use Rattle.machine.specs.Screens.{screen_of, joined_screens, is_screen_joined}
@@ -17,7 +17,7 @@ use Rattle.machine.specs.Routing.{route_all}
 use Rattle.machine.specs.Clipboards.{clip, set_clip, is_sharing, refresh, all_but, take_over, become_known, grab, whole}
 use Rattle.server_core.specs.declared.server.ServerCore.{ServerCore}
 use Rattle.server_core.specs.Leading.{Leads, Reads}
-use Rattle.server_core.specs.Standing.{Beside, Stands}
+use Rattle.server_core.specs.Standing.{Stands}
 use Rattle.server_core.proofs.Moved.{stands-clips}
 
 never : (a t : Bool) → t ≡ false → (a && t) ≡ false

@@ -1,5 +1,5 @@
 -- The clipboard that the active screen is handed, and then is clean for.
-use Rattle.std.specs.Prelude.{◌≡◌, ℕ, List, Option, Some, None}
+use Rattle.std.specs.Prelude.{◌≡◌, ℕ, List, Some, None}
 use Rattle.std.specs.Borrow.{Bor}
 use Rattle.std.proofs.Common.{sym, ap, ◌∙◌, subst}
 use Rattle.share_base.specs.declared.clip_id.ClipId.{ClipId}
@@ -8,14 +8,12 @@ use Rattle.clip_chunks.specs.Books as books
 use Rattle.clip_chunks.specs.Calls.{Entered}
 use Rattle.clip_chunks.specs.Clips.{Clips, with_clip}
 use Rattle.clip_chunks.specs.Rules as rules
-use Rattle.machine.specs.States.{State}
 use Rattle.machine.specs.Screens.{screen_of}
 use Rattle.machine.specs.Clipboards.{clip}
 use Rattle.server_core.specs.declared.server.ServerCore.{ServerCore}
 use Rattle.server_core.specs.Targets.{meant}
 use Rattle.server_core.specs.Leading.{Reads}
 use Rattle.server_core.specs.HandingOut.{HandsOut}
-use Rattle.server_core.specs.Standing.{Beside, Stands}
 use Rattle.server_core.proofs.Moved.{stands-clips}
 use Rattle.server_core.proofs.CleanClips.{clean-clips}
 

@@ -2,7 +2,7 @@
 use Rattle.std.specs.Prelude.{◌≡◌, refl, ℕ, ◌<◌, ◌≤◌, ◌+◌, Bool, true, false, ◌||◌, ◌==◌, List, [], ◌∷◌, drop, length, Option, Some, None}
 use Rattle.std.specs.List.{list_any, filter_map, cons_option}
 use Rattle.std.specs.Option.{option_map_or}
-use Rattle.std.proofs.Common.{arith, sym, ap, ◌∙◌, subst, get_or}
+use Rattle.std.proofs.Common.{arith, sym, ap, ◌∙◌, get_or}
 use Rattle.std.proofs.lemmas.List.{at_drop_more, at_drop_all}
 use Rattle.hello_states.specs.Phases.{joined_screen}
 use Rattle.machine.specs.Connections.{Connection}

@@ -1,11 +1,11 @@
 -- A connection of which the phase is known, and a server at which it came into another one.
-use Rattle.std.specs.Prelude.{◌≡◌, refl, ℕ, Bool, true, false, not, ◌==◌, ◌||◌, cond, List, [], ◌∷◌, length, Option, Some, None}
+use Rattle.std.specs.Prelude.{◌≡◌, refl, ℕ, Bool, true, false, not, ◌==◌, cond, List, [], ◌∷◌, length, Option, Some, None}
 use Rattle.std.specs.List.{find}
 use Rattle.std.specs.Option.{option_map, option_map_or}
-use Rattle.std.proofs.Common.{arith, sym, ap, ◌∙◌, subst}
+use Rattle.std.proofs.Common.{sym, ap, ◌∙◌, subst}
 use Rattle.hello_states.specs.Phases.{Phase, is_parting, used_screen}
 use Rattle.machine.specs.Combining.{when}
-use Rattle.machine.specs.Connections.{Connection, has_serial, is_live, changed, changed_at, advanced}
+use Rattle.machine.specs.Connections.{Connection, has_serial, is_live, changed, advanced}
 use Rattle.machine.specs.States.{State}
 use Rattle.machine.specs.Screens.{connection, phase_of, lives, change}
 use Rattle.machine.proofs.Finding.{none_some, some_is}

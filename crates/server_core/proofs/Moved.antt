@@ -1,6 +1,6 @@
 -- A server whose cursor moved to a screen, or whose clipboards changed, is in the state after it.
-use Rattle.std.specs.Prelude.{◌≡◌, refl, ℕ, [], ◌∷◌, ◌++◌}
-use Rattle.std.proofs.Common.{sym, ap, ◌∙◌, subst}
+use Rattle.std.specs.Prelude.{◌≡◌, ℕ, []}
+use Rattle.std.proofs.Common.{ap, ◌∙◌}
 use Rattle.share_base.specs.declared.numbers.ScreenNo.{ScreenNo}
 use Rattle.clip_chunks.specs.declared.book.ClipBook.{ClipBook}
 use Rattle.clip_chunks.specs.Books as books
@@ -15,53 +15,10 @@ use Rattle.server_core.specs.declared.server.ServerCore.{ServerCore}
 use Rattle.server_core.specs.declared.target.Target as kept
 use Rattle.server_core.specs.Targets.{meant, IsThere}
 use Rattle.server_core.specs.Standing.{Beside, Stands}
+use Prim.{search}
 
 pub stands-at : (b : Beside) (core : ServerCore) (s : State) (to : kept.Target) (p : Point) (n : ℕ) (g : SwitchGate) → IsThere s (meant to) → Stands b core s → n ≡ next_sequence core.sequence → gates.Heard g s.config.settings [] → Stands b (record core { active = to; cursor = p; sequence = n; gate = g }) (at_screen (meant to) (point_of p) s)
-stands-at b core s to p n g there h e heard = record {
-  config = h.config;
-  primary = h.primary;
-  primary_shape = h.primary_shape;
-  lines = h.lines;
-  ran = h.ran;
-  sleeps_until = h.sleeps_until;
-  has_quit = h.has_quit;
-  at = h.at;
-  connections = h.connections;
-  active = refl;
-  there = there;
-  cursor = refl;
-  sequence = e ∙ ap next_sequence h.sequence;
-  is_locked = h.is_locked;
-  gate = heard;
-  pressed = h.pressed;
-  clips = h.clips;
-  clips_of = h.clips_of;
-  clips_limit = h.clips_limit;
-  told = h.told;
-  log = h.log;
-}
+stands-at b core s to p n g there h e heard = search (e ∙ ap next_sequence h.sequence)
 
 pub stands-clips : (b : Beside) (core : ServerCore) (s : State) (book : ClipBook) (clips : Clips) → Stands b core s → book.primary ≡ core.clips.primary → book.limit ≡ core.clips.limit → books.StandsAt book clips → Stands b (record core { clips = book }) (record s { clips = clips })
-stands-clips b core s book clips h p l at = record {
-  config = h.config;
-  primary = h.primary;
-  primary_shape = h.primary_shape;
-  lines = h.lines;
-  ran = h.ran;
-  sleeps_until = h.sleeps_until;
-  has_quit = h.has_quit;
-  at = h.at;
-  connections = h.connections;
-  active = h.active;
-  there = h.there;
-  cursor = h.cursor;
-  sequence = h.sequence;
-  is_locked = h.is_locked;
-  gate = h.gate;
-  pressed = h.pressed;
-  clips = at;
-  clips_of = ap (λ (n : ScreenNo). n.0) p ∙ h.clips_of;
-  clips_limit = l ∙ h.clips_limit;
-  told = h.told;
-  log = h.log;
-}
+stands-clips b core s book clips h p l at = search (ap (λ (n : ScreenNo). n.0) p ∙ h.clips_of, l ∙ h.clips_limit)

@@ -1,19 +1,17 @@
 -- The line of the script that is next.
-use Rattle.std.specs.Prelude.{◌≡◌, refl, ℕ, zero, suc, ◌+◌, ◌<◌, ◌≤◌, Bool, true, false, not, ◌&&◌, List, [], ◌∷◌, length, map, drop, slice_get, Option, Some, None, ◌⊎◌}
-use Rattle.std.specs.Option.{option_map_or}
-use Rattle.std.proofs.Common.{arith, sym, ap, ◌∙◌, subst, add-one}
-use Rattle.std.proofs.lemmas.Option.{slice_get_past}
+use Rattle.std.specs.Prelude.{◌≡◌, refl, ℕ, zero, suc, ◌<◌, ◌≤◌, List, [], ◌∷◌, length, map, drop, slice_get, Some}
+use Rattle.std.proofs.Common.{arith, sym, ap, ◌∙◌, subst}
 use Rattle.script_screen.specs.declared.script.ScriptLine.{ScriptLine}
 use Rattle.script_screen.specs.Scripts.{ScriptText}
 use Rattle.machine.specs.Scripts.{Line}
 use Rattle.machine.specs.States.{State}
-use Rattle.machine.specs.Running.{past, may_run, is_awake, is_met, does}
+use Rattle.machine.specs.Running.{past, does}
 use Rattle.machine.specs.Slow.{part_slow}
 use Rattle.server_core.specs.declared.server.ServerCore.{ServerCore}
 use Rattle.server_core.specs.Lines.{line_of}
-use Rattle.server_core.specs.NextLine.{may_run_first, may_run_next, run_first, run_next}
+use Rattle.server_core.specs.NextLine.{run_first, run_next}
 use Rattle.server_core.specs.Standing.{Beside, Stands}
-use Rattle.server_core.specs.Leading.{Leads, Reads}
+use Rattle.server_core.specs.Leading.{Leads}
 
 ahead_some : (xs : List ScriptLine) (n : ℕ) (l : ScriptLine) → slice_get xs n ≡ Some l → map line_of (drop n xs) ≡ line_of l ∷ map line_of (drop (suc n) xs)
 ahead_some [] n l e = absurd (let x : ⊥ = cc in x)

@@ -1,7 +1,7 @@
 -- Which targets are there, before and after a change.
-use Rattle.std.specs.Prelude.{◌≡◌, refl, ℕ, ◌==◌, Bool, true, false, ◌||◌, ◌&&◌, List, [], ◌∷◌, Option, Some, None}
+use Rattle.std.specs.Prelude.{◌≡◌, refl, ℕ, ◌==◌, Bool, true, false, ◌||◌, ◌&&◌, List, [], ◌∷◌, Some}
 use Rattle.std.specs.List.{list_any}
-use Rattle.std.proofs.Common.{arith, sym, ap, ◌∙◌, subst}
+use Rattle.std.proofs.Common.{ap, ◌∙◌}
 use Rattle.machine.specs.Combining.{when}
 use Rattle.machine.specs.Targets.{Target, Primary, Client}
 use Rattle.machine.specs.Connections.{Connection, has_serial, is_live, changed}

@@ -1,9 +1,9 @@
 -- What the gate hears changes neither shapes nor ways.
-use Rattle.std.specs.Prelude.{◌≡◌, refl, ℕ, ℤ, Bool, true, false, List, Option, Some, None, unwrap_or, if◌then◌else◌}
-use Rattle.std.proofs.Common.{sym, ap, ◌∙◌, subst}
+use Rattle.std.specs.Prelude.{◌≡◌, refl, ℕ, ℤ, List, Option, Some, None, unwrap_or}
+use Rattle.std.proofs.Common.{ap, subst}
 use Rattle.share_base.specs.declared.shape.Shape.{Shape}
 use Rattle.edge_cross.specs.Gates.{Call}
-use Rattle.machine.specs.Targets.{Target, Primary, Client, Origin, OfLine}
+use Rattle.machine.specs.Targets.{Target, Primary, Client, Origin}
 use Rattle.machine.specs.States.{State, Point}
 use Rattle.machine.specs.Screens.{shape_of, target_of, clamped}
 use Rattle.machine.specs.Edges.{Way, first_way}

@@ -1,7 +1,7 @@
 -- What holds of a server that was started, and that goes on.
-use Rattle.std.specs.Prelude.{◌≡◌, refl, ℕ, Bool, true, false, ◌&&◌, List, [], ◌∷◌, map}
+use Rattle.std.specs.Prelude.{◌≡◌, refl, ℕ, true, ◌&&◌, List, [], ◌∷◌, map, Result, Ok, Err, OnOk}
 use Rattle.std.specs.List.{list_all}
-use Rattle.std.proofs.Common.{arith, sym, ap, ◌∙◌, subst}
+use Rattle.std.proofs.Common.{arith, ap, ◌∙◌}
 use Rattle.std.proofs.lemmas.Bool.Decides.{nat_tests}
 use Rattle.script_screen.specs.declared.script.ScriptLine.{ScriptLine}
 use Rattle.script_screen.specs.declared.script.ScriptLine.TheVariants as text
@@ -63,6 +63,10 @@ runs-in serves o latest front core s begins reached h =
 
 pub goes-on-running : (h : Happening) (old new : ServerCore) → Steps serves_in old new h → GoesOnRunning h old new
 goes-on-running h old new steps = λ o latest front s r allowed. runs-in serves_in o _ front new _ r.begins (goes-on o latest s h r.reached allowed) (steps o latest front s r.reached allowed r.is_in)
+
+pub goes-on-where-ok : {A E : Type 0} (r : Result A E) (h : Happening) (old new : ServerCore) → OnOk r (Steps serves_in old new h) → OnOk r (GoesOnRunning h old new)
+goes-on-where-ok (Ok a) h old new steps = goes-on-running h old new steps
+goes-on-where-ok (Err e) h old new steps = tt
 
 pub closes-running : (n : ℕ) (old new : ServerCore) → ClosesParting serves_in old new n → ClosesRunning n old new
 closes-running n old new closes = λ o latest front s r e. runs-in serves_in o latest front new _ r.begins (goes-on o latest s (Closed n) r.reached (closing-is-open s n e)) (closes o latest front s r.reached e r.is_in)

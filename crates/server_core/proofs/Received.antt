@@ -33,6 +33,7 @@ use Rattle.server_core.proofs.Found.{some-read, none-read}
 use Rattle.server_core.proofs.Open.{changed-open}
 use Rattle.server_core.proofs.Besides.{with_told, only_live, RestsAt, stands-only, rests-only, given-only, fewer-only}
 use Rattle.server_core.proofs.Gone.{judged-off}
+use Prim.{search}
 
 -- ---- the kept connection
 
@@ -64,29 +65,7 @@ abbrev pub told_of : ℕ → List ℕ → Reading → Beside → Beside
 told_of n piece reading b = with_told (appended n piece b.received) (appended n reading.messages.items b.given) b
 
 stands-brought : (b : Beside) (core : ServerCore) (s : State) (n : ℕ) (piece : List ℕ) (reading : Reading) (table : List kept.Connection) → Stands b core s → ChangesAt n (Reads piece reading) core.table table → Stands (told_of n piece reading b) (record core { table = table }) (change n (receives piece) s)
-stands-brought b core s n piece reading table h g = record {
-  config = h.config;
-  primary = h.primary;
-  primary_shape = h.primary_shape;
-  lines = h.lines;
-  ran = h.ran;
-  sleeps_until = h.sleeps_until;
-  has_quit = h.has_quit;
-  at = h.at;
-  connections = are-read (around b s) n piece reading core.table table s.connections h.connections g;
-  active = h.active;
-  there = changed-open n (receives piece) (λ c. refl) s.connections s.active h.there;
-  cursor = h.cursor;
-  sequence = h.sequence;
-  is_locked = h.is_locked;
-  gate = h.gate;
-  pressed = h.pressed;
-  clips = h.clips;
-  clips_of = h.clips_of;
-  clips_limit = h.clips_limit;
-  told = h.told;
-  log = h.log;
-}
+stands-brought b core s n piece reading table h g = search (are-read (around b s) n piece reading core.table table s.connections h.connections g, changed-open n (receives piece) (λ c. refl) s.connections s.active h.there)
 
 -- the inbox of all that came
 box-messages : (stream : List ℕ) (messages : List Msg) (bad : Option BadFrame) → ComesTo stream messages bad → (inbox_of stream).messages ≡ messages

@@ -10,7 +10,7 @@ use Rattle.server_core.specs.Lines.{line_of}
 use Rattle.server_core.specs.NextLine.{may_run_first, may_run_next, run_first, run_next}
 use Rattle.server_core.specs.Standing.{Beside, Stands}
 use Rattle.server_core.specs.Leading.{Leads, Reads}
-use Rattle.server_core.proofs.Steady.{HasAhead, steady-lines, does-steady, part_slow-steady}
+use Rattle.server_core.proofs.Steady.{steady-lines, does-steady, part_slow-steady}
 
 -- after so many lines the server stands at a state from which those ahead lead to where all of them lead
 pub record Run (b : Beside) (now : ServerCore) (n : ℕ) (s : State) : Type 0 where

@@ -3,11 +3,9 @@ use Rattle.std.specs.Prelude.{◌≡◌, refl, ℕ, Bool, true, false, not, ◌|
 use Rattle.std.specs.List.{flat_map}
 use Rattle.std.specs.Option.{option_to_list}
 use Rattle.std.proofs.Common.{sym, ap, ◌∙◌}
-use Rattle.machine.specs.States.{State}
 use Rattle.machine.specs.Running.{awake_at, is_awake}
 use Rattle.machine.specs.Readings.{only_if, sleep_due}
 use Rattle.server_core.specs.declared.server.ServerCore.{ServerCore}
-use Rattle.server_core.specs.Standing.{Beside, Stands}
 use Rattle.server_core.specs.Leading.{Reads}
 
 abbrev pub ends : Bool → ℕ → Option ℕ → List ℕ

@@ -1,15 +1,13 @@
 -- The first connection that is too slow.
-use Rattle.std.specs.Prelude.{◌≡◌, refl, ℕ, Bool, true, false, not, ◌&&◌, List, Option, Some, None}
+use Rattle.std.specs.Prelude.{◌≡◌, refl, ℕ, true, not, ◌&&◌, Option, Some, None}
 use Rattle.std.specs.List.{find}
-use Rattle.std.specs.Option.{option_map_or}
-use Rattle.std.proofs.Common.{arith, sym, ap, ◌∙◌, subst}
+use Rattle.std.proofs.Common.{sym, ap, ◌∙◌, subst}
 use Rattle.hello_states.specs.declared.part_cause.PartCause.TheVariants as cause
 use Rattle.hello_states.specs.Phases.{is_parting}
 use Rattle.machine.specs.Targets.{Client}
 use Rattle.machine.specs.Connections.{Connection, is_live}
 use Rattle.machine.specs.States.{State}
 use Rattle.machine.specs.Combining.{for_some, unchanged}
-use Rattle.machine.specs.Queues.{is_slow}
 use Rattle.machine.specs.Screens.{lives}
 use Rattle.machine.specs.Partings.{part}
 use Rattle.machine.specs.Slow as machine

@@ -1,5 +1,5 @@
 -- Slow connections that part one after another.
-use Rattle.std.specs.Prelude.{◌≡◌, ℕ, ◌+◌, ◌≤◌, length, Option, None}
+use Rattle.std.specs.Prelude.{◌≡◌, ℕ, ◌+◌, ◌≤◌, length, Option}
 use Rattle.std.proofs.Common.{sym, ap, ◌∙◌, subst}
 use Rattle.hello_states.specs.declared.part_cause.PartCause.TheVariants as cause
 use Rattle.machine.specs.Connections.{Connection}

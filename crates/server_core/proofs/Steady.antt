@@ -1,5 +1,5 @@
 -- What the rules of a line, of a parting and of a switch leave alone: whatever their steps keep.
-use Rattle.std.specs.Prelude.{◌≡◌, refl, ℕ, ◌+◌, ℤ, Bool, true, false, not, ◌&&◌, ◌||◌, ◌==◌, List, [], ◌∷◌, length, map, filter, Option, Some, None, unwrap_or, if◌then◌else◌}
+use Rattle.std.specs.Prelude.{◌≡◌, refl, ℕ, ◌+◌, ℤ, Bool, true, false, not, ◌&&◌, ◌==◌, List, [], ◌∷◌, length, map, filter, Option, Some, None, if◌then◌else◌}
 use Rattle.std.proofs.Common.{ap, ◌∙◌}
 use Rattle.share_base.specs.declared.clip_id.ClipId.{ClipId}
 use Rattle.share_base.specs.declared.clip_id.ClipId.TheVariants.{Clipboard, Selection}
@@ -27,18 +27,18 @@ use Rattle.machine.specs.Connections.{Connection, serials}
 use Rattle.machine.specs.States.{State, Point, LogLine, Local, Part}
 use Rattle.machine.specs.Combining.{when, for_some, unchanged}
 use Rattle.machine.specs.Screens.{screen_of, shape_of, target_of, middle, change, joined_screens, joined_clients, lives}
-use Rattle.machine.specs.Routing.{route, route_all, route_each, logs}
-use Rattle.machine.specs.Clipboards.{clip, set_clip, clip_limit, is_sharing, give, refresh, refresh_both, become_known, publish, copy, clips_left}
+use Rattle.machine.specs.Routing.{route, route_all, logs}
+use Rattle.machine.specs.Clipboards.{clip, set_clip, clip_limit, is_sharing, give, refresh, refresh_both, publish, copy}
 use Rattle.machine.specs.Edges.{Way, landing, edge_at_cursor, first_way}
 use Rattle.machine.specs.Crossing.{Cross, Stay, Switch, cross, entry_point, moved_point}
-use Rattle.machine.specs.Switching.{entering, at_screen, tell_entering, enter, tell_leaving, switch, fall_back}
+use Rattle.machine.specs.Switching.{entering, at_screen, tell_entering, tell_leaving, switch, fall_back}
 use Rattle.machine.specs.Partings.{lose, say_farewell, parted, marked, screen_joined, part}
 use Rattle.machine.specs.Slow.{first_slow, part_first_slow, part_slow}
-use Rattle.machine.specs.Actions.{may_switch, switch_to, enter_landing, switch_toward, locked_by, act, act_all}
+use Rattle.machine.specs.Actions.{may_switch, switch_to, enter_landing, switch_toward, locked_by, act}
 use Rattle.machine.specs.GateCalls.{hear_away, before_ask}
 use Rattle.machine.specs.Routes.{Route, Hotkey, Nothing, One, route_of, key_rule, button_rule, moves_by}
-use Rattle.machine.specs.Events.{taken_too, released, holding, go, go_if, gate_hears, moved, move, move_by, motion, event}
-use Rattle.machine.specs.Running.{save, say_bye, quit, does}
+use Rattle.machine.specs.Events.{taken_too, released, holding, go, go_if, gate_hears, moved, move, move_by, motion}
+use Rattle.machine.specs.Running.{say_bye, quit, does}
 use Rattle.machine.proofs.Rules.{when-keeps, choose-keeps, for_some-keeps, for_each-keeps, times-keeps}
 
 -- each step keeps it

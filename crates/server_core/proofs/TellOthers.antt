@@ -1,6 +1,6 @@
 -- Clients that are told a message one after another, without one of them.
-use Rattle.std.specs.Prelude.{◌≡◌, refl, ℕ, zero, suc, ◌+◌, ◌<◌, ◌≤◌, ◌==◌, Bool, true, false, not, ◌||◌, cond, get_or, List, [], ◌∷◌, ◌++◌, length, take, filter, slice_get, Option, Some, None}
-use Rattle.std.specs.List.{list_any, filter_map, cons_option}
+use Rattle.std.specs.Prelude.{◌≡◌, refl, ℕ, ◌+◌, ◌<◌, ◌≤◌, ◌==◌, Bool, true, false, not, cond, get_or, List, [], ◌∷◌, ◌++◌, length, take, filter, slice_get, Option, Some, None}
+use Rattle.std.specs.List.{filter_map, cons_option}
 use Rattle.std.specs.Option.{option_map, option_to_list}
 use Rattle.std.proofs.Common.{arith, sym, ap, ◌∙◌, subst}
 use Rattle.std.proofs.lemmas.Bool.{eqb-true, false_from_ne_true}
@@ -9,13 +9,11 @@ use Rattle.std.proofs.lemmas.Option.{slice_get_read, slice_get_past}
 use Rattle.message_codec.specs.declared.messages.Msg.{Msg}
 use Rattle.hello_states.specs.Phases.{joined_screen}
 use Rattle.machine.specs.Targets.{Target, Primary, Client, Own}
-use Rattle.machine.specs.Connections.{Connection, has_serial}
+use Rattle.machine.specs.Connections.{Connection}
 use Rattle.machine.specs.States.{State}
-use Rattle.machine.specs.Combining.{for_each}
 use Rattle.machine.specs.Screens.{screen_in}
 use Rattle.machine.specs.Routing.{route, route_all}
 use Rattle.machine.specs.Clipboards.{all_but}
-use Rattle.machine.proofs.Rules.{for_each-keeps}
 use Rattle.connection_table.specs.declared.connection.Connection as kept
 use Rattle.connection_table.specs.PhaseOf.{phase_of}
 use Rattle.connection_table.specs.Standing.{StandsFor}
@@ -25,19 +23,17 @@ use Rattle.server_core.specs.Targets.{IsThere}
 use Rattle.server_core.specs.Others.{is_other, others_among, tell_other_at}
 use Rattle.server_core.specs.Standing.{Beside, around, Stands}
 use Rattle.server_core.specs.Leading.{Leads, LeadsWhere}
-use Rattle.server_core.proofs.Indexed.{take-one, filter_map-append, pairs-at}
+use Rattle.server_core.proofs.Indexed.{take-one, filter_map-append}
 use Rattle.server_core.proofs.Loops.{for_each-append}
+use Rattle.server_core.proofs.ToldJoined.{pair-at, there-at, same-connections}
 
 abbrev client_in : Connection → Option Target
 client_in c = option_map (λ screen. Client c.serial) (screen_in c)
 
 -- ---- one
 
-pair_at : (b : Beside) (core : ServerCore) (s : State) (i : ℕ) (o : Option kept.Connection) → o ≡ slice_get core.table i → Stands b core s → FoundPair (StandsFor (around b s)) o (slice_get s.connections i)
-pair_at b core s i o e h = subst (λ x. FoundPair (StandsFor (around b s)) x (slice_get s.connections i)) (sym e) (pairs-at (StandsFor (around b s)) 0 core.table s.connections i h.connections)
-
 pub other-none : (core : ServerCore) (m : Msg) (n i : ℕ) → None ≡ slice_get core.table i → Leads core core (tell_other_at i n m)
-other-none core m n i e = λ b s h. by b s h (slice_get s.connections i) (pair_at b core s i None e h)
+other-none core m n i e = λ b s h. by b s h (slice_get s.connections i) (pair-at b core s i None e h)
   where
     by : (b : Beside) (s : State) → Stands b core s → (o : Option Connection) → FoundPair (StandsFor (around b s)) None o → Stands b core (route_all Own (others_among n (option_to_list o)) m s)
     by b s h None f = h
@@ -45,7 +41,7 @@ other-none core m n i e = λ b s h. by b s h (slice_get s.connections i) (pair_a
 
 -- one that isn't joined
 pub other-unjoined : (core : ServerCore) (m : Msg) (n i : ℕ) (k : kept.Connection) → Some k ≡ slice_get core.table i → joined_screen (phase_of k.phase) ≡ None → Leads core core (tell_other_at i n m)
-other-unjoined core m n i k e none = λ b s h. by b s h (slice_get s.connections i) (pair_at b core s i (Some k) e h)
+other-unjoined core m n i k e none = λ b s h. by b s h (slice_get s.connections i) (pair-at b core s i (Some k) e h)
   where
     by : (b : Beside) (s : State) → Stands b core s → (o : Option Connection) → FoundPair (StandsFor (around b s)) (Some k) o → Stands b core (route_all Own (others_among n (option_to_list o)) m s)
     by b s h None f = absurd f
@@ -53,7 +49,7 @@ other-unjoined core m n i k e none = λ b s h. by b s h (slice_get s.connections
 
 -- the one that hears nothing
 pub other-itself : (core : ServerCore) (m : Msg) (n i serial screen : ℕ) (k : kept.Connection) → Some k ≡ slice_get core.table i → serial ≡ k.serial → serial ≡ n → joined_screen (phase_of k.phase) ≡ Some screen → Leads core core (tell_other_at i n m)
-other-itself core m n i serial screen k e of same is = λ b s h. by b s h (slice_get s.connections i) (pair_at b core s i (Some k) e h)
+other-itself core m n i serial screen k e of same is = λ b s h. by b s h (slice_get s.connections i) (pair-at b core s i (Some k) e h)
   where
     by : (b : Beside) (s : State) → Stands b core s → (o : Option Connection) → FoundPair (StandsFor (around b s)) (Some k) o → Stands b core (route_all Own (others_among n (option_to_list o)) m s)
     by b s h None f = absurd f
@@ -63,20 +59,8 @@ other-itself core m n i serial screen k e of same is = λ b s h. by b s h (slice
         subst (λ (p : Option ℕ). Stands b core (route_all Own (filter (is_other n) (cons_option (option_map (λ x. Client c.serial) p) [])) m s)) (sym (ap joined_screen (sym f.phase) ∙ is))
         (subst (λ (t : Bool). Stands b core (route_all Own (cond (not t) (Client c.serial ∷ []) []) m s)) (sym test) h)
 
-there_at : (cs : List Connection) (i : ℕ) (c : Connection) → slice_get cs i ≡ Some c → list_any (has_serial c.serial) cs ≡ true
-there_at [] i c e = absurd (let x : ⊥ = cc in x)
-there_at (d ∷ cs) zero c e = first d c (let is : d ≡ c = cc in is) (list_any (has_serial c.serial) cs)
-  where
-    first : (d c : Connection) → d ≡ c → (rest : Bool) → ((d.serial == c.serial) || rest) ≡ true
-    first d c is rest = let same : d.serial ≡ c.serial = ap (λ (x : Connection). x.serial) is in grind (arith, same)
-there_at (d ∷ cs) (suc i) c e = later (has_serial c.serial d) (there_at cs i c e)
-  where
-    later : (b : Bool) → list_any (has_serial c.serial) cs ≡ true → (b || list_any (has_serial c.serial) cs) ≡ true
-    later true h = refl
-    later false h = h
-
 pub other-told : (old new : ServerCore) (m : Msg) (n i serial screen : ℕ) (k : kept.Connection) → Some k ≡ slice_get old.table i → serial ≡ k.serial → (serial ≡ n → ⊥) → joined_screen (phase_of k.phase) ≡ Some screen → LeadsWhere (λ s. IsThere s (Client serial)) old new (route Own (Client serial) m) → Leads old new (tell_other_at i n m)
-other-told old new m n i serial screen k e of differs is leads = λ b s h. by b s h (slice_get s.connections i) refl (pair_at b old s i (Some k) e h)
+other-told old new m n i serial screen k e of differs is leads = λ b s h. by b s h (slice_get s.connections i) refl (pair-at b old s i (Some k) e h)
   where
     by : (b : Beside) (s : State) → Stands b old s → (o : Option Connection) → slice_get s.connections i ≡ o → FoundPair (StandsFor (around b s)) (Some k) o → Stands b new (route_all Own (others_among n (option_to_list o)) m s)
     by b s h None q f = absurd f
@@ -85,7 +69,7 @@ other-told old new m n i serial screen k e of differs is leads = λ b s h. by b 
         let test : (c.serial == n) ≡ false = false_from_ne_true (c.serial == n) (λ t. differs (same ∙ eqb-true c.serial n t)) in
         subst (λ (p : Option ℕ). Stands b new (route_all Own (filter (is_other n) (cons_option (option_map (λ x. Client c.serial) p) [])) m s)) (sym (ap joined_screen (sym f.phase) ∙ is))
         (subst (λ (t : Bool). Stands b new (route_all Own (cond (not t) (Client c.serial ∷ []) []) m s)) (sym test)
-        (subst (λ x. Stands b new (route Own (Client x) m s)) same (leads b s (subst (λ x. IsThere s (Client x)) (sym same) (there_at s.connections i c q)) h)))
+        (subst (λ x. Stands b new (route Own (Client x) m s)) same (leads b s (subst (λ x. IsThere s (Client x)) (sym same) (there-at s.connections i c q)) h)))
 
 -- ---- one after another
 
@@ -95,9 +79,6 @@ tells_others n i m s = route_all Own (others_among n (take i s.connections)) m s
 
 pub others-none : (core : ServerCore) (n : ℕ) (m : Msg) → Leads core core (tells_others n 0 m)
 others-none core n m = λ b s h. h
-
-same_connections : (ts : List Target) (m : Msg) (s : State) → (route_all Own ts m s).connections ≡ s.connections
-same_connections ts m s = for_each-keeps (λ t. t.connections ≡ s.connections) ts (λ t. route Own t m) (λ t u k. k) s refl
 
 filter_append : {A : Type 0} (test : A → Bool) (xs ys : List A) → filter test (xs ++ ys) ≡ filter test xs ++ filter test ys
 filter_append test [] ys = refl
@@ -114,7 +95,7 @@ pub others-more : (old now new : ServerCore) (n i : ℕ) (m : Msg) → Leads old
 others-more old now new n i m so_far leads = λ b s h.
     let one : List Target = others_among n (option_to_list (slice_get s.connections i)) in
     let more : others_among n (take (i + 1) s.connections) ≡ others_among n (take i s.connections) ++ one = ap (others_among n) (take-one s.connections i) ∙ others_append n (take i s.connections) (option_to_list (slice_get s.connections i)) in
-    subst (λ t. Stands b new t) (ap (λ cs. route_all Own (others_among n (option_to_list (slice_get cs i))) m (tells_others n i m s)) (same_connections (others_among n (take i s.connections)) m s) ∙ (sym (for_each-append (others_among n (take i s.connections)) one (λ t. route Own t m) s) ∙ ap (λ ts. route_all Own ts m s) (sym more)))
+    subst (λ t. Stands b new t) (ap (λ cs. route_all Own (others_among n (option_to_list (slice_get cs i))) m (tells_others n i m s)) (same-connections (others_among n (take i s.connections)) m s) ∙ (sym (for_each-append (others_among n (take i s.connections)) one (λ t. route Own t m) s) ∙ ap (λ ts. route_all Own ts m s) (sym more)))
     (leads b (tells_others n i m s) (so_far b s h))
 
 pub others-all : (old now : ServerCore) (n i : ℕ) (m : Msg) → i ≡ length old.table → Leads old now (tells_others n i m) → Leads old now (λ s. route_all Own (others_among n s.connections) m s)

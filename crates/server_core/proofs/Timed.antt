@@ -9,7 +9,7 @@ use Rattle.std.proofs.lemmas.Option.{slice_get-map}
 use Rattle.hello_states.specs.declared.part_cause.PartCause.TheVariants as cause
 use Rattle.machine.specs.Connections.{Connection, serials}
 use Rattle.machine.specs.States.{State}
-use Rattle.machine.specs.Combining.{when, for_some, for_each, unchanged}
+use Rattle.machine.specs.Combining.{when, for_each, unchanged}
 use Rattle.machine.specs.Screens.{connection}
 use Rattle.machine.specs.Slow.{part_slow}
 use Rattle.machine.specs.Timers.{sent_beat}

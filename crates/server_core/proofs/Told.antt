@@ -1,5 +1,5 @@
 -- A server that told a target a message is in the state after it.
-use Rattle.std.specs.Prelude.{◌≡◌, refl, ℕ, ◌==◌, Bool, true, false, cond, List, [], ◌∷◌, ◌++◌, Option, Some, None, if◌then◌else◌}
+use Rattle.std.specs.Prelude.{◌≡◌, refl, ℕ, ◌==◌, Bool, true, false, List, [], ◌∷◌, ◌++◌, Option, Some, None, if◌then◌else◌}
 use Rattle.std.specs.List.{find, list_any, flat_map}
 use Rattle.std.specs.Option.{option_map_or}
 use Rattle.std.proofs.Common.{arith, sym, ap, ◌∙◌, subst}
@@ -21,36 +21,15 @@ use Rattle.connection_table.proofs.Standing.{are-sent, are-other, are-found}
 use Rattle.server_log.specs.declared.primary.Primary as screen
 use Rattle.server_log.specs.Telling as logs
 use Rattle.server_core.specs.declared.server.ServerCore.{ServerCore}
-use Rattle.server_core.specs.Targets.{IsOpenIn, IsThere}
+use Rattle.server_core.specs.Targets.{IsThere}
 use Rattle.server_core.specs.Standing.{Beside, around, Stands}
 use Rattle.server_core.proofs.LogText.{log-more, log-one, log-same, told-more, told-same}
+use Prim.{search}
 
 -- ---- the primary
 
 pub stands-told : (b : Beside) (core : ServerCore) (s : State) (o : Origin) (m : Msg) (p : screen.Primary) (log : List ℕ) → Stands b core s → logs.Tells core.primary p m core.log log → Stands b (record core { primary = p; log = log }) (route o Primary m s)
-stands-told b core s o m p log h t = record {
-  config = h.config;
-  primary = h.primary;
-  primary_shape = h.primary_shape;
-  lines = h.lines;
-  ran = h.ran;
-  sleeps_until = h.sleeps_until;
-  has_quit = h.has_quit;
-  at = h.at;
-  connections = are-other (around b s) (entry o Primary m s) core.table s.connections refl h.connections;
-  active = h.active;
-  there = h.there;
-  cursor = h.cursor;
-  sequence = h.sequence;
-  is_locked = h.is_locked;
-  gate = h.gate;
-  pressed = h.pressed;
-  clips = h.clips;
-  clips_of = h.clips_of;
-  clips_limit = h.clips_limit;
-  told = subst (logs.StandsFor p) (sym (told-more s.routed (entry o Primary m s) refl)) (t.stands (messages_for Primary s.routed) h.told);
-  log = log-more b.front core.log log s.log (log_lines Primary m s.routed (s.routed ++ entry o Primary m s ∷ [])) h.log (t.logged (messages_for Primary s.routed) h.told);
-}
+stands-told b core s o m p log h t = search (are-other (around b s) (entry o Primary m s) core.table s.connections refl h.connections, subst (logs.StandsFor p) (sym (told-more s.routed (entry o Primary m s) refl)) (t.stands (messages_for Primary s.routed) h.told), log-more b.front core.log log s.log (log_lines Primary m s.routed (s.routed ++ entry o Primary m s ∷ [])) h.log (t.logged (messages_for Primary s.routed) h.told))
 
 -- ---- a connection
 
@@ -80,26 +59,4 @@ stands-sent b core s o n m table log slow there h g is out in_log =
     let e : Entry = entry o (Client n) m s in
     let kept_all : AreFor (told e (around b s)) table s.connections = are-sent (around b s) n o m core.table table s.connections h.connections g in
     let is_it : slow ≡ is_slow (s.routed ++ e ∷ []) n = is ∙ slow-of (told e (around b s)) n table s.connections there kept_all in
-    record {
-      config = h.config;
-      primary = h.primary;
-      primary_shape = h.primary_shape;
-      lines = h.lines;
-      ran = h.ran;
-      sleeps_until = h.sleeps_until;
-      has_quit = h.has_quit;
-      at = h.at;
-      connections = kept_all;
-      active = h.active;
-      there = h.there;
-      cursor = h.cursor;
-      sequence = h.sequence;
-      is_locked = h.is_locked;
-      gate = h.gate;
-      pressed = h.pressed;
-      clips = h.clips;
-      clips_of = h.clips_of;
-      clips_limit = h.clips_limit;
-      told = subst (logs.StandsFor core.primary) (sym (told-same s.routed e refl)) h.told;
-      log = sent_log b.front core.log log s.log (Send n m) (is_slow (s.routed ++ e ∷ []) n) h.log (λ k. out (is_it ∙ k)) (λ k. in_log (is_it ∙ k));
-    }
+    search (subst (logs.StandsFor core.primary) (sym (told-same s.routed e refl)) h.told, sent_log b.front core.log log s.log (Send n m) (is_slow (s.routed ++ e ∷ []) n) h.log (λ k. out (is_it ∙ k)) (λ k. in_log (is_it ∙ k)))

@@ -4,31 +4,10 @@ use Rattle.machine.specs.States.{State}
 use Rattle.server_core.specs.declared.server.ServerCore.{ServerCore}
 use Rattle.server_core.specs.Standing.{Beside, Stands, Leaves}
 use Rattle.server_core.specs.Driving.{serves_in, departs_in}
+use Prim.{search}
 
 leaves_from : (b : Beside) (core : ServerCore) (s : State) → Stands b core s → Leaves b core s
-leaves_from b core s h = record {
-  config = h.config;
-  primary = h.primary;
-  primary_shape = h.primary_shape;
-  lines = h.lines;
-  ran = h.ran;
-  sleeps_until = h.sleeps_until;
-  has_quit = h.has_quit;
-  at = h.at;
-  connections = h.connections;
-  active = h.active;
-  there = tt;
-  cursor = h.cursor;
-  sequence = h.sequence;
-  is_locked = h.is_locked;
-  gate = h.gate;
-  pressed = h.pressed;
-  clips = h.clips;
-  clips_of = h.clips_of;
-  clips_limit = h.clips_limit;
-  told = h.told;
-  log = h.log;
-}
+leaves_from b core s h = search
 
 pub departs_too : (core : ServerCore) (front : List ℕ) (s : State) → serves_in core front s
     → departs_in core front s

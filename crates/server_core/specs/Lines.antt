@@ -1,5 +1,4 @@
 -- What a line of the script says to the machine.
-use Rattle.std.specs.Prelude.{Bool}
 use Rattle.machine.specs.Scripts.{Line}
 use Rattle.machine.specs.Scripts as line
 use Rattle.script_screen.specs.declared.script.ScriptLine.{ScriptLine}

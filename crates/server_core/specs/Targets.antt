@@ -1,5 +1,5 @@
 -- Whom the server means by a target.
-use Rattle.std.specs.Prelude.{◌≡◌, ℕ, true, List}
+use Rattle.std.specs.Prelude.{◌≡◌, true, List}
 use Rattle.std.specs.List.{list_any}
 use Rattle.machine.specs.Targets as machine
 use Rattle.machine.specs.Connections.{Connection, has_serial}

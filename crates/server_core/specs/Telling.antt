@@ -1,5 +1,5 @@
 -- Telling the joined connections, one after another.
-use Rattle.std.specs.Prelude.{ℕ, List, slice_get, Option}
+use Rattle.std.specs.Prelude.{ℕ, List, slice_get}
 use Rattle.std.specs.Option.{option_map, option_to_list}
 use Rattle.std.specs.List.{filter_map}
 use Rattle.message_codec.specs.declared.messages.Msg.{Msg}

@@ -31,18 +31,16 @@ impl Engine for ServerCore {
         ensures laws { OnOk result
             (GoesOnRunning (meaning happening.entry) self.old self.new) }
         ensures whole { OnOk result (self.old.is_broken ≡ false) }
+        ensures still { OnOk result (self.new.is_broken ≡ false) }
         ensures broken { OnErr result (self.new.is_broken ≡ true) }
     {
         if self.is_broken {
             return Err(OutOfMemory);
         }
-        match self.happen(happening) {
-            Ok(()) => Ok(()),
-            Err(OutOfMemory) => {
-                self.is_broken = true;
-                Err(OutOfMemory)
-            }
-        }
+        let answer = self.happen(happening);
+        // Set from the answer, so that no `Ok` leaves a broken server.
+        self.is_broken = answer.is_err();
+        answer
     }
 
     /// Notes that a connection took so many of the bytes that it was offered.

@@ -1,5 +1,5 @@
-use Rattle.std.specs.Prelude.{◌≡◌, ◌≤◌, ◌<◌, true, false, nat_le, length}
-use Rattle.std.proofs.Common.{arith, sym, ap, ◌∙◌, subst}
+use Rattle.std.specs.Prelude.{◌≡◌, true, false, nat_le, length}
+use Rattle.std.proofs.Common.{arith, ap, ◌∙◌, subst}
 use Rattle.machine.specs.Targets.{Own}
 use Rattle.machine.specs.States.{State}
 use Rattle.machine.specs.Acceptance.{opened, most_open}

@@ -1,5 +1,5 @@
 use Rattle.std.specs.Prelude.{◌≡◌, ◌<◌, refl, ℕ, length}
-use Rattle.std.proofs.Common.{sym, ap, ◌∙◌, subst}
+use Rattle.std.proofs.Common.{ap, ◌∙◌, subst}
 use Rattle.message_codec.specs.declared.messages.Msg.TheVariants as msg
 use Rattle.option_table.specs.declared.rows.OptionName.TheVariants as option
 use Rattle.option_table.specs.Settings.{standing}

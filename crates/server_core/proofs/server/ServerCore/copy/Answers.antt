@@ -1,4 +1,3 @@
-use Rattle.std.specs.Prelude.{◌≡◌}
 use Rattle.std.proofs.Common.{ap, ◌∙◌}
 use Rattle.option_table.specs.declared.rows.OptionName.TheVariants as option
 use Rattle.screen_config.specs.declared.globals.Globals.{Globals}

@@ -1,4 +1,3 @@
-use Rattle.std.proofs.Common.{subst}
 use Rattle.clip_chunks.specs.Calls.{Joined, ruled}
 use Rattle.server_core.proofs.Moved.{stands-clips}
 use Rattle.server_core.proofs.server.ServerCore.dirty_clips.Goals as goal

@@ -1,10 +1,9 @@
-use Rattle.std.specs.Prelude.{◌≡◌, ◌<◌, ◌≤◌, ℕ, Bool, true, false, nat_le, Option, Some, None}
-use Rattle.std.proofs.Common.{sym, ap, ◌∙◌, subst, arith}
+use Rattle.std.specs.Prelude.{◌≡◌, ◌<◌, ◌≤◌, true, false, nat_le, Option}
+use Rattle.std.proofs.Common.{sym, ◌∙◌, subst, arith}
 use Rattle.edge_cross.specs.declared.gate.Waiting.{Waiting}
 use Rattle.machine.specs.Combining.{when, for_some, unchanged}
 use Rattle.machine.specs.Slow.{part_slow}
 use Rattle.machine.specs.Timers.{try}
-use Rattle.machine.specs.GateCalls as calls
 use Rattle.server_core.specs.Standing.{Stands}
 use Rattle.server_core.proofs.server.ServerCore.gate_timer.Goals as goal
 

@@ -1,5 +1,4 @@
 use Rattle.std.proofs.Common.{sym, subst}
-use Rattle.hello_states.specs.declared.part_cause.PartCause.TheVariants as cause
 use Rattle.machine.specs.Happenings as machine
 use Rattle.server_engine.specs.declared.happening.Happening.{Happening}
 use Rattle.server_engine.specs.Engines.{Steps, meaning}

@@ -1,5 +1,5 @@
 use Rattle.std.proofs.Common.{sym, ap, ◌∙◌}
-use Rattle.machine.specs.Targets.{Target, Client, same_target}
+use Rattle.machine.specs.Targets.{Client, same_target}
 use Rattle.server_core.specs.declared.target.Target as kept
 use Rattle.server_core.specs.Targets.{meant}
 use Rattle.server_core.proofs.Same.{same-turned}

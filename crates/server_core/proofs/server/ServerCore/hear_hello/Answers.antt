@@ -1,4 +1,4 @@
-use Rattle.std.proofs.Common.{refl, sym, ◌∙◌, subst}
+use Rattle.std.proofs.Common.{refl, ◌∙◌, subst}
 use Rattle.hello_states.specs.Phases.{Greeting}
 use Rattle.hello_states.specs.Handshake.{HelloAnswer}
 use Rattle.machine.specs.Hello.{answer}

@@ -1,5 +1,4 @@
-use Rattle.std.proofs.Common.{sym, ap, ◌∙◌, subst}
-use Rattle.share_base.specs.declared.numbers.ScreenNo.{ScreenNo}
+use Rattle.std.proofs.Common.{subst}
 use Rattle.clip_chunks.specs.Calls.{Left, ruled}
 use Rattle.clip_chunks.specs.Books as books
 use Rattle.server_core.proofs.Moved.{stands-clips}

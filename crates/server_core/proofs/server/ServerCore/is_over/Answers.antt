@@ -1,4 +1,4 @@
-use Rattle.std.specs.Prelude.{◌≡◌, ℕ, true, ◌&&◌, ◌==◌, List, length}
+use Rattle.std.specs.Prelude.{ℕ, ◌&&◌, ◌==◌, List, length}
 use Rattle.std.proofs.Common.{sym, ap, ◌∙◌}
 use Rattle.connection_table.specs.declared.connection.Connection.{Connection}
 use Rattle.connection_table.specs.Standing.{StandsFor}

@@ -1,5 +1,5 @@
-use Rattle.std.specs.Prelude.{◌≡◌, ◌<◌, refl, ℕ, [], ◌∷◌, length, Some}
-use Rattle.std.proofs.Common.{sym, ap, ◌∙◌, subst}
+use Rattle.std.specs.Prelude.{◌<◌, refl, ℕ, [], ◌∷◌, length, Some}
+use Rattle.std.proofs.Common.{sym, subst}
 use Rattle.hello_states.specs.Phases.{Asked}
 use Rattle.hello_states.specs.Handshake.{asked_after_info}
 use Rattle.machine.specs.Targets.{Client}

@@ -1,4 +1,4 @@
-use Rattle.std.specs.Prelude.{◌≡◌, refl, Bool, true, false, is_some, Option, Some, None}
+use Rattle.std.specs.Prelude.{◌≡◌, refl, false, is_some, Option, Some, None}
 use Rattle.std.proofs.Common.{sym, ◌∙◌, subst}
 use Rattle.share_base.specs.declared.numbers.RuleNo.{RuleNo}
 use Rattle.message_codec.specs.declared.messages.Msg.TheVariants as msg

@@ -1,5 +1,5 @@
-use Rattle.std.specs.Prelude.{◌≡◌, ◌<◌, ℕ, List, length, ◌++◌}
-use Rattle.std.proofs.Common.{arith, sym, ap, ◌∙◌}
+use Rattle.std.specs.Prelude.{◌≡◌, ℕ, List, length, ◌++◌}
+use Rattle.std.proofs.Common.{arith, ap, ◌∙◌}
 use Rattle.screen_config.specs.Configurations.{Configuration}
 use Rattle.machine.specs.States.{Join}
 use Rattle.machine.specs.Information.{name_of}

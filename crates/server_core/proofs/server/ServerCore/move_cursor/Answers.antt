@@ -1,12 +1,10 @@
-use Rattle.std.specs.Prelude.{◌≡◌, Bool, Option, Some, None, ◌∷◌, if◌then◌else◌}
+use Rattle.std.specs.Prelude.{◌≡◌, Bool, Some, None, ◌∷◌, if◌then◌else◌}
 use Rattle.std.proofs.Common.{sym, ap, ◌∙◌, subst}
 use Rattle.edge_cross.specs.Gates.{Away, asked}
 use Rattle.machine.specs.Targets.{OfLine}
-use Rattle.machine.specs.States.{State}
 use Rattle.machine.specs.GateCalls.{before_ask, hear_ask}
 use Rattle.machine.specs.Crossing.{stay, through, moved_point}
 use Rattle.machine.specs.Events.{moved}
-use Rattle.screen_crossing.specs.declared.way.Way as found
 use Rattle.screen_crossing.specs.Points.{point_of}
 use Rattle.screen_crossing.specs.Ways.{way_of, ways_of}
 use Rattle.server_core.specs.Standing.{Stands}

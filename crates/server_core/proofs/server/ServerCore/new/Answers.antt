@@ -1,7 +1,6 @@
-use Rattle.std.specs.Prelude.{◌≡◌, refl, ℕ, pos, [], ◌*◌, map}
+use Rattle.std.specs.Prelude.{◌≡◌, refl, [], ◌*◌, map}
 use Rattle.std.proofs.Common.{sym, ap, ◌∙◌, subst}
 use Rattle.share_base.specs.declared.numbers.ScreenNo.{ScreenNo}
-use Rattle.share_base.specs.declared.shape.Shape.{Shape}
 use Rattle.screen_config.specs.declared.globals.Globals.{Globals}
 use Rattle.clip_chunks.specs.Books as books
 use Rattle.clip_chunks.specs.Rules.{first_clips}

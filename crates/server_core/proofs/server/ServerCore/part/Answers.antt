@@ -1,5 +1,5 @@
 use Rattle.std.specs.Prelude.{ℕ, Option}
-use Rattle.std.proofs.Common.{sym, ap, ◌∙◌, subst}
+use Rattle.std.proofs.Common.{subst}
 use Rattle.machine.specs.States.{State}
 use Rattle.machine.specs.Combining.{for_some, unchanged}
 use Rattle.machine.specs.Partings.{say_farewell, marked, lose}

@@ -1,4 +1,4 @@
-use Rattle.std.specs.Prelude.{◌≡◌, refl, ◌≤◌, Bool, true, false, not, length}
+use Rattle.std.specs.Prelude.{◌≡◌, ◌≤◌, false, length}
 use Rattle.std.proofs.Common.{arith, rules, ap}
 use Rattle.server_core.proofs.SlowTurns.{turns-more, turns-all, turns-over}
 use Rattle.server_core.proofs.server.ServerCore.part_slow.Goals as goal

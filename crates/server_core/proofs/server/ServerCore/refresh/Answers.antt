@@ -1,4 +1,4 @@
-use Rattle.std.specs.Prelude.{ℕ, List, Option, Some, None}
+use Rattle.std.specs.Prelude.{ℕ, List, Option, Some}
 use Rattle.std.proofs.Common.{sym, subst}
 use Rattle.clip_chunks.specs.Rules as rules
 use Rattle.machine.specs.Targets.{Target}

@@ -1,7 +1,6 @@
 use Rattle.std.specs.Prelude.{◌<◌, length}
-use Rattle.std.proofs.Common.{rules, sym, ap, subst}
-use Rattle.script_screen.specs.Scripts.{ScriptText}
-use Rattle.server_core.proofs.NextLine.{run-none, run-some}
+use Rattle.std.proofs.Common.{rules, ap, subst}
+use Rattle.server_core.proofs.NextLine.{run-some}
 use Rattle.server_core.proofs.server.ServerCore.run_next.Goals as goal
 
 pub returns : goal.returns

@@ -1,4 +1,4 @@
-use Rattle.std.specs.Prelude.{◌≡◌, ◌≤◌, length}
+use Rattle.std.specs.Prelude.{◌≤◌, length}
 use Rattle.std.proofs.Common.{arith, ap}
 use Rattle.server_core.proofs.ScriptTurns.{runs-none, runs-more, runs-over, runs-all}
 use Rattle.server_core.proofs.server.ServerCore.run_script.Goals as goal

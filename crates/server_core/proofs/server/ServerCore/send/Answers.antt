@@ -1,5 +1,5 @@
 use Rattle.std.specs.Prelude.{refl, true, false}
-use Rattle.std.proofs.Common.{sym, ◌∙◌, arith}
+use Rattle.std.proofs.Common.{sym, ◌∙◌}
 use Rattle.server_core.proofs.Told.{stands-sent}
 use Rattle.server_core.proofs.server.ServerCore.send.Goals as goal
 

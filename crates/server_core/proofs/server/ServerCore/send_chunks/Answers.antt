@@ -1,6 +1,6 @@
 use Rattle.std.proofs.Common.{ℕ, List, length, min, ◌∙◌, ap}
 use Rattle.std.specs.Slice.Iter.{chunks_rest}
-use Rattle.server_core.proofs.SentClips.{tells-none, tells-more, tells-all}
+use Rattle.server_core.proofs.SentClips.{tells-more, tells-all}
 use Rattle.server_core.proofs.server.ServerCore.send_chunks.Goals as goal
 
 pub loop-chunk-preserved : goal.loop-chunk-preserved

@@ -1,4 +1,4 @@
-use Rattle.std.specs.Prelude.{Bool, true, false, not, ◌&&◌}
+use Rattle.std.specs.Prelude.{Bool, not, ◌&&◌}
 use Rattle.std.proofs.Common.{sym, ap, ◌∙◌, subst}
 use Rattle.share_base.specs.declared.shape.Shape.{Shape}
 use Rattle.machine.specs.Targets.{same_target}
@@ -6,7 +6,6 @@ use Rattle.machine.specs.States.{Point}
 use Rattle.machine.specs.Combining.{when}
 use Rattle.machine.specs.Screens.{shape_of, middle}
 use Rattle.machine.specs.Switching.{switch}
-use Rattle.machine.specs.Actions.{may_switch}
 use Rattle.server_core.specs.Targets.{meant}
 use Rattle.server_core.specs.Standing.{Stands}
 use Rattle.server_core.proofs.server.ServerCore.switch_to.Goals as goal

@@ -1,5 +1,5 @@
 use Rattle.std.specs.Prelude.{Bool, Option}
-use Rattle.std.proofs.Common.{sym, ap, ◌∙◌, subst}
+use Rattle.std.proofs.Common.{sym, ◌∙◌, subst}
 use Rattle.screen_links.specs.declared.link.Landing.{Landing}
 use Rattle.machine.specs.Combining.{when, for_some, unchanged}
 use Rattle.machine.specs.Edges.{landing, edge_at_cursor}

@@ -1,4 +1,4 @@
-use Rattle.std.proofs.Common.{sym, ap, ◌∙◌, subst, ℤ, ◌≡◌, w16, to_z, of_z}
+use Rattle.std.proofs.Common.{ap, ◌∙◌, subst, ℤ, ◌≡◌, w16, to_z, of_z}
 use Rattle.message_codec.specs.declared.messages.Msg.TheVariants as msg
 use Rattle.machine.specs.States.{State}
 use Rattle.machine.specs.Routing.{route}

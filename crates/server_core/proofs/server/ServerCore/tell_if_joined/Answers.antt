@@ -1,7 +1,5 @@
-use Rattle.std.specs.Prelude.{◌≡◌, Option, Some, None}
-use Rattle.std.specs.Option.{option_map}
+use Rattle.std.specs.Prelude.{◌≡◌, Some, None}
 use Rattle.std.proofs.Common.{sym, ap, ◌∙◌}
-use Rattle.share_base.specs.declared.numbers.ScreenNo.{ScreenNo}
 use Rattle.hello_states.specs.Phases.{joined_screen}
 use Rattle.machine.specs.Targets.{Own}
 use Rattle.connection_table.specs.PhaseOf.{phase_of}

@@ -1,6 +1,6 @@
 use Rattle.std.specs.Prelude.{◌≡◌, length}
 use Rattle.std.proofs.Common.{arith, ap}
-use Rattle.server_core.proofs.ToldJoined.{tells-none, tells-more, tells-all}
+use Rattle.server_core.proofs.ToldJoined.{tells-more, tells-all}
 use Rattle.server_core.proofs.server.ServerCore.tell_joined.Goals as goal
 
 pub loop-index-preserved : goal.loop-index-preserved

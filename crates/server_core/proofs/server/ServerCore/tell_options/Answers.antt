@@ -1,5 +1,5 @@
 use Rattle.std.specs.Prelude.{◌≡◌, ℕ, List, length, ◌++◌}
-use Rattle.std.proofs.Common.{arith, sym, ap, ◌∙◌, subst}
+use Rattle.std.proofs.Common.{arith, ap, ◌∙◌, subst}
 use Rattle.message_codec.specs.declared.messages.Msg.TheVariants as msg
 use Rattle.screen_config.specs.Configurations.{Configuration}
 use Rattle.screen_config.specs.Globals.{wire_options_of}

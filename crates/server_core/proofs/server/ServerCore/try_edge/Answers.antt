@@ -1,13 +1,12 @@
-use Rattle.std.specs.Prelude.{Option, Some, None, ◌∷◌}
+use Rattle.std.specs.Prelude.{Option}
 use Rattle.std.proofs.Common.{sym, ap, ◌∙◌, subst}
-use Rattle.edge_cross.specs.Gates.{Away}
 use Rattle.machine.specs.Targets.{Own}
 use Rattle.machine.specs.Combining.{for_some, unchanged}
 use Rattle.machine.specs.GateCalls.{hear_away}
 use Rattle.machine.specs.Edges.{Way}
 use Rattle.machine.specs.Crossing.{through}
 use Rattle.machine.specs.Timers.{switch_through}
-use Rattle.screen_crossing.specs.Ways.{way_of, ways_of}
+use Rattle.screen_crossing.specs.Ways.{ways_of}
 use Rattle.server_core.specs.Standing.{Stands}
 use Rattle.server_core.proofs.server.ServerCore.try_edge.Goals as goal
 
