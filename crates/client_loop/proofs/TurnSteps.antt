@@ -20,6 +20,7 @@ use Rattle.client_loop.specs.Attendants.{Prints, Clears, text_of}
 use Rattle.client_loop.specs.Stages.{Course, Stage, with_front}
 use Rattle.client_loop.specs.Ends.{Halt, AfterStep, is_broken}
 use Rattle.client_loop.specs.Turns.{Written, Broken, LinesOn, Logged, Halted, Ended, AfterTurn, turned, turned_once}
+use Prim.{search}
 
 -- ---- one text after another
 
@@ -56,21 +57,7 @@ module _ {C : Type 0} (stands : C → List ℕ → Client → Type 0) (core core
 module _ {C L : Type 0} (stands : C → List ℕ → Client → Type 0) (state : L → LinkState) (leads : L → L → Type 0) where
   -- the numbers of waits and reads are no matter where the turns have ended
   abbrev pub halt-on : (r : Course L) (e : ClientEnd) (core : C) (link : L) (w n : ℕ) → Halt stands state leads r e core link → Halt stands state leads (record r { waits = w; reads = n }) e core link
-  halt-on r e core link w n h = record {
-    acts = h.acts;
-    judge = h.judge;
-    made = h.made;
-    waits = h.waits;
-    faults = h.faults;
-    breaks = h.breaks;
-    led = h.led;
-    cause = h.cause;
-    last = h.last;
-    came = h.came;
-    held = h.held;
-    stood = h.stood;
-    shown = h.shown;
-  }
+  halt-on r e core link w n h = search
 
   pub ended-by : (r : Course L) (e : ClientEnd) (core : C) (link : L) (old new : SinkState) → is_broken e ≡ false → Halted stands state leads r e core link old new → Ended stands state leads r e core link old new
   ended-by r end.WriteFault core link old new whole h = absurd (let x : ⊥ = cc in x)
@@ -115,20 +102,7 @@ module _ {C L : Type 0} (stands : C → List ℕ → Client → Type 0) (state :
 
   pub cleared : (r : Course L) (front : List ℕ) (core core' : C) (link : L) (watch : Watch) (due : Flags → Client → Place)
       → (st : Stage stands state leads r core link watch due) → stands core' front st.judge.client → Stage stands state leads (with_front front r) core' link watch due
-  cleared r front core core' link watch due st stood = record {
-    acts = st.acts;
-    judge = st.judge;
-    made = st.made;
-    waits = st.waits;
-    faults = st.faults;
-    breaks = st.breaks;
-    led = st.led;
-    flags = st.flags;
-    goes = st.goes;
-    few = st.few;
-    stood = stood;
-    there = st.there;
-  }
+  cleared r front core core' link watch due st stood = search
 
   pub lines-clear : (r : Course L) (front : List ℕ) (core core' : C) (link : L) (watch : Watch) (due : Flags → Client → Place) (old mid new : SinkState)
       → Stage stands state leads (with_front front r) core link watch due → Written old mid front → LinesOn stands (Ok tt) core core' mid new

@@ -33,6 +33,7 @@ use Rattle.engine_loop.specs.Watches.{flags_of, serials_in, AreSeen}
 use Rattle.engine_loop.specs.Stages.{Made, Course, Stage, Cut, After, first_of, is_wait, waits_in, known_with}
 use Rattle.engine_loop.proofs.WatchFlags.{flags-grown, seen-grows}
 use Rattle.engine_loop.proofs.Totals.{total-grows}
+use Prim.{search}
 
 -- ---- lists of acts
 
@@ -197,23 +198,7 @@ cut-none serves state leads r core hub hub' watch P trans calls led st = record 
 -- the place is called another way
 pub elsewhere : {E H : Type 0} (serves : E → List ℕ → State → Type 0) (state : H → HubState) (leads : H → H → Type 0) (r : Course H) (core : E) (hub : H) (watch : Watch) (P Q : List Act → Judge → Type 0)
     → (st : Stage serves state leads r core hub watch P) → Q st.acts st.judge → Stage serves state leads r core hub watch Q
-elsewhere serves state leads r core hub watch P Q st there = record {
-  acts = st.acts;
-  judge = st.judge;
-  made = st.made;
-  waits = st.waits;
-  ready = st.ready;
-  faults = st.faults;
-  led = st.led;
-  latest = st.latest;
-  flags = st.flags;
-  seen = st.seen;
-  watched = st.watched;
-  reached = st.reached;
-  served = st.served;
-  wrote = st.wrote;
-  there = there;
-}
+elsewhere serves state leads r core hub watch P Q st there = search
 
 -- where memory ran out
 pub after-err : (result : Result (Unit {0}) OutOfMemory) (A : Type 0) {B : Type 0} → IsErr result → B → After result A B

@@ -23,50 +23,19 @@ use Rattle.engine_loop.specs.Stages.{Course, GoesWell, Stage, Cut, Is, IsTurned,
 use Rattle.engine_loop.specs.Turns.{Wrote, Failed, Logged, AfterLog, Heeds, EndsAtFailure, AfterTurn, AfterWait, HasQuit, with_front, waited_once, IsAny}
 use Rattle.engine_loop.specs.Ends.{GoesOn, GoesOnAfter}
 use Rattle.engine_loop.proofs.MoreActs.{elsewhere}
+use Prim.{search}
 
 -- the log was cleared
 cleared : {E H : Type 0} (serves : E → List ℕ → State → Type 0) (state : H → HubState) (leads : H → H → Type 0) (r : Course H) (front : List ℕ) (core core' : E) (hub : H) (watch : Watch) (P : List Act → Judge → Type 0)
     → (st : Stage serves state leads (with_front front r) core hub watch P) → serves core' (log_text st.judge.state) st.judge.state
     → Stage serves state leads (with_front (log_text st.judge.state) r) core' hub watch P
-cleared serves state leads r front core core' hub watch P st served = record {
-  acts = st.acts;
-  judge = st.judge;
-  made = st.made;
-  waits = st.waits;
-  ready = st.ready;
-  faults = st.faults;
-  led = st.led;
-  latest = st.latest;
-  flags = st.flags;
-  seen = st.seen;
-  watched = st.watched;
-  reached = st.reached;
-  served = served;
-  wrote = take_all (length (log_text st.judge.state)) (log_text st.judge.state) (omega arith);
-  there = st.there;
-}
+cleared serves state leads r front core core' hub watch P st served = search (take_all (length (log_text st.judge.state)) (log_text st.judge.state) (omega arith))
 
 -- the engine changed, and stands as before
 abbrev stayed : {E H : Type 0} (serves : E → List ℕ → State → Type 0) (state : H → HubState) (leads : H → H → Type 0) (r : Course H) (core core' : E) (hub : H) (watch : Watch) (P Q : List Act → Judge → Type 0)
     → (st : Stage serves state leads r core hub watch P) → serves core' r.front st.judge.state → Q st.acts st.judge
     → Stage serves state leads r core' hub watch Q
-stayed serves state leads r core core' hub watch P Q st served there = record {
-  acts = st.acts;
-  judge = st.judge;
-  made = st.made;
-  waits = st.waits;
-  ready = st.ready;
-  faults = st.faults;
-  led = st.led;
-  latest = st.latest;
-  flags = st.flags;
-  seen = st.seen;
-  watched = st.watched;
-  reached = st.reached;
-  served = served;
-  wrote = st.wrote;
-  there = there;
-}
+stayed serves state leads r core core' hub watch P Q st served there = search
 
 -- one text after another
 pub wrote_more : (old mid new : SinkState) (front text : List ℕ) → Wrote old mid front → Wrote mid new text → Wrote old new (front ++ text)
