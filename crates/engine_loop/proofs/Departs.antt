@@ -20,7 +20,7 @@ use Rattle.engine_loop.specs.declared.watch.Watch.{Watch}
 use Rattle.engine_loop.specs.Watches.{serials_in}
 use Rattle.engine_loop.specs.Stages.{Course, GoesWell, Stage, Made, waits_in, known_with}
 use Rattle.engine_loop.specs.Turns.{Wrote, LogsOn, with_front}
-use Rattle.engine_loop.specs.Ends.{Departing, LeftShort, EndsBy, AfterTurns, GoesOn, is_failure}
+use Rattle.engine_loop.specs.Ends.{Departing, LeftSoFar, EndsBy, AfterTurns, GoesOn, is_failure}
 use Rattle.engine_loop.specs.Serving.{Serves, HubCounts, LogsTo, IsWhole, IsIn}
 use Rattle.engine_loop.proofs.TurnSteps.{wrote_more, failed_more}
 
@@ -65,20 +65,22 @@ leave_from : {E H : Type 0} (serves departs : E → List ℕ → State → Type 
     → (st : Stage serves state leads (record r { ready = ready }) core hub watch P) → waits_in st.acts ≤ turns → EndsBy end turns st.acts st.judge
     → Departing departs state leads r end turns core hub (serials_in watch)
 leave_from serves departs departing state leads r ready end turns core hub watch P st few cause = record {
-  run = st.acts;
-  judge = st.judge;
-  leaves = [];
-  last = leaving st.judge;
-  between = state hub;
-  made = st.made;
-  left = made-none (leaving st.judge) (state hub);
-  waits = few;
-  faults = st.faults;
-  led = st.led;
+  so_far = record {
+    run = st.acts;
+    judge = st.judge;
+    leaves = [];
+    last = leaving st.judge;
+    between = state hub;
+    made = st.made;
+    left = made-none (leaving st.judge) (state hub);
+    waits = few;
+    faults = st.faults;
+    led = st.led;
+    wrote = st.wrote;
+  };
   open_now = sym st.watched;
   reached = st.reached;
   departed = departing core r.front st.judge.state st.served;
-  wrote = st.wrote;
   place = ap (λ (ns : List ℕ). Leaves ns) (sym st.watched);
   cause = cause;
 }
@@ -136,7 +138,7 @@ module _ {E H : Type 0} (serves departs : E → List ℕ → State → Type 0) (
   to-leave ends.OutOfMemory goes h = absurd (let x : ⊥ = cc in x)
 
   pub open-rise : (end : ServeEnd) → ToLeave end → Rise 0 (serials_in watch)
-  open-rise end q = let d = q.departing in subst (Rise 0) d.open_now (serials-rise r.origin d.last.latest d.last.state d.reached).rise
+  open-rise end q = let d = q.departing in subst (Rise 0) d.open_now (serials-rise r.origin d.so_far.last.latest d.so_far.last.state d.reached).rise
 
 -- ---- the end of a run
 
@@ -195,25 +197,25 @@ module _ {E H : Type 0} (departs : E → List ℕ → State → Type 0) (state :
 
   pub all-left : Departing departs state leads then_of end turns core1 hub1 [] → LogsOn departs (Ok tt) core1 core2 mid new → Serves departs state leads r.origin turns end core2 r.hub hub1 old new
   all-left d logs =
-      let a = logs r.origin d.last.latest q.front d.last.state d.reached d.departed in
-      serves_by departs state leads r.origin turns end core2 r.hub hub1 old new d.run d.leaves d.judge d.last d.between d.made d.left d.waits d.led
-      (is_whole end d.last d.place) d.cause (is_in departs end core2 d.last.state (log_text d.last.state) a.3)
-      (logs_to end (log_text d.last.state) old new goes (subst (Wrote old new) a.1 (wrote_more old mid new q.front a.0 q.wrote a.2)))
-      (q.counts (state r.hub).faults (state hub1).faults d.faults)
+      let a = logs r.origin d.so_far.last.latest q.front d.so_far.last.state d.reached d.departed in
+      serves_by departs state leads r.origin turns end core2 r.hub hub1 old new d.so_far.run d.so_far.leaves d.so_far.judge d.so_far.last d.so_far.between d.so_far.made d.so_far.left d.so_far.waits d.so_far.led
+      (is_whole end d.so_far.last d.place) d.cause (is_in departs end core2 d.so_far.last.state (log_text d.so_far.last.state) a.3)
+      (logs_to end (log_text d.so_far.last.state) old new goes (subst (Wrote old new) a.1 (wrote_more old mid new q.front a.0 q.wrote a.2)))
+      (q.counts (state r.hub).faults (state hub1).faults d.so_far.faults)
 
   pub log-broke : (fault : ServeEnd) → Departing departs state leads then_of end turns core1 hub1 [] → LogsOn departs (Err fault) core1 core2 mid new → Serves departs state leads r.origin turns fault core2 r.hub hub1 old new
   log-broke ends.WriteFault d logs =
-      let a = logs r.origin d.last.latest q.front d.last.state d.reached d.departed in
-      serves_by departs state leads r.origin turns ends.WriteFault core2 r.hub hub1 old new d.run d.leaves d.judge d.last d.between d.made d.left d.waits d.led
+      let a = logs r.origin d.so_far.last.latest q.front d.so_far.last.state d.reached d.departed in
+      serves_by departs state leads r.origin turns ends.WriteFault core2 r.hub hub1 old new d.so_far.run d.so_far.leaves d.so_far.judge d.so_far.last d.so_far.between d.so_far.made d.so_far.left d.so_far.waits d.so_far.led
       tt tt (q.front, a.3) (q.front ++ a.0, a.1, failed_more old mid new q.front a.0 q.wrote a.2)
-      (counted q.failed (state r.hub).faults (state hub1).faults d.faults)
-  log-broke ends.Quit d logs = absurd (logs r.origin d.last.latest q.front d.last.state d.reached d.departed)
-  log-broke ends.Over d logs = absurd (logs r.origin d.last.latest q.front d.last.state d.reached d.departed)
-  log-broke ends.HubFault d logs = absurd (logs r.origin d.last.latest q.front d.last.state d.reached d.departed)
-  log-broke ends.TurnsSpent d logs = absurd (logs r.origin d.last.latest q.front d.last.state d.reached d.departed)
-  log-broke ends.OutOfMemory d logs = absurd (logs r.origin d.last.latest q.front d.last.state d.reached d.departed)
+      (counted q.failed (state r.hub).faults (state hub1).faults d.so_far.faults)
+  log-broke ends.Quit d logs = absurd (logs r.origin d.so_far.last.latest q.front d.so_far.last.state d.reached d.departed)
+  log-broke ends.Over d logs = absurd (logs r.origin d.so_far.last.latest q.front d.so_far.last.state d.reached d.departed)
+  log-broke ends.HubFault d logs = absurd (logs r.origin d.so_far.last.latest q.front d.so_far.last.state d.reached d.departed)
+  log-broke ends.TurnsSpent d logs = absurd (logs r.origin d.so_far.last.latest q.front d.so_far.last.state d.reached d.departed)
+  log-broke ends.OutOfMemory d logs = absurd (logs r.origin d.so_far.last.latest q.front d.so_far.last.state d.reached d.departed)
 
-  pub left-short : LeftShort state leads then_of turns hub1 → Serves departs state leads r.origin turns ends.OutOfMemory core1 r.hub hub1 old mid
+  pub left-short : LeftSoFar state leads then_of turns hub1 → Serves departs state leads r.origin turns ends.OutOfMemory core1 r.hub hub1 old mid
   left-short d =
       serves_by departs state leads r.origin turns ends.OutOfMemory core1 r.hub hub1 old mid d.run d.leaves d.judge d.last d.between d.made d.left d.waits d.led
       tt tt tt (q.front, d.wrote, q.wrote) (counted q.failed (state r.hub).faults (state hub1).faults d.faults)

@@ -19,7 +19,7 @@ use Rattle.attentive_acts.specs.Judging.{Judge, AllowsAt, judge_after, leaving}
 use Rattle.engine_loop.specs.declared.serve_end.ServeEnd.{ServeEnd}
 use Rattle.server_engine.specs.Engines.{Steps}
 use Rattle.engine_loop.specs.Stages.{Course, Made}
-use Rattle.engine_loop.specs.Ends.{Departing, LeftShort}
+use Rattle.engine_loop.specs.Ends.{Departing, LeftSoFar}
 use Rattle.engine_loop.proofs.OpenOnes.{listed-open}
 use Rattle.engine_loop.proofs.MoreActs.{IsTransitive, Moves, moves-by, made-more, front-on}
 
@@ -43,57 +43,47 @@ first-open c rest open_now e = let here : Contains (c ∷ rest) c = (0, omega ar
 -- ---- one closing
 
 module _ {E H : Type 0} (departs : E → List ℕ → State → Type 0) (state : H → HubState) (leads : H → H → Type 0) (trans : IsTransitive leads) (r : Course H) (end : ServeEnd) (turns : ℕ) (core core' : E) (hub hub' : H) (serial : ℕ) (rest : List ℕ) (calls : HubCalls (Some (act.Close serial)) (state hub) (state hub')) (led : leads hub hub') (d : Departing departs state leads r end turns core hub (serial ∷ rest)) where
-  open_is : IsOpen d.last.state serial
-  open_is = listed-open serial d.last.state.connections (first-open serial rest (serials d.last.state.connections) d.open_now)
+  open_is : IsOpen d.so_far.last.state serial
+  open_is = listed-open serial d.so_far.last.state.connections (first-open serial rest (serials d.so_far.last.state.connections) d.open_now)
 
-  moves_is : Moves r.origin d.last.latest d.last.state (act.Close serial)
-  moves_is = moves-by r.origin d.last.latest d.last.state (act.Close serial) (machine.Closed serial) refl refl refl d.reached open_is
+  moves_is : Moves r.origin d.so_far.last.latest d.so_far.last.state (act.Close serial)
+  moves_is = moves-by r.origin d.so_far.last.latest d.so_far.last.state (act.Close serial) (machine.Closed serial) refl refl refl d.reached open_is
 
-  left_is : Made (leaving d.judge) d.between (state hub') (d.leaves ++ act.Close serial ∷ []) (judge_after d.last (act.Close serial))
-  left_is = made-more (leaving d.judge) d.between (state hub) (state hub') d.leaves d.last (act.Close serial) refl d.left (subst (λ (q : Place). AllowsAt q d.last (act.Close serial)) (sym d.place) refl) calls.acts
+  pub left_is : Made (leaving d.so_far.judge) d.so_far.between (state hub') (d.so_far.leaves ++ act.Close serial ∷ []) (judge_after d.so_far.last (act.Close serial))
+  left_is = made-more (leaving d.so_far.judge) d.so_far.between (state hub) (state hub') d.so_far.leaves d.so_far.last (act.Close serial) refl d.so_far.left (subst (λ (q : Place). AllowsAt q d.so_far.last (act.Close serial)) (sym d.place) refl) calls.acts
 
-  faults_is : Counts r.failed (state r.hub).faults (state hub').faults
-  faults_is = subst (Counts r.failed (state r.hub).faults) (sym calls.faults) d.faults
+  pub faults_is : Counts r.failed (state r.hub).faults (state hub').faults
+  faults_is = subst (Counts r.failed (state r.hub).faults) (sym calls.faults) d.so_far.faults
 
-  wrote_is : IsFront r.front (log_text (step d.last.state (machine.Closed serial)))
-  wrote_is = front-on r.front (log_text d.last.state) (log_text (step d.last.state (machine.Closed serial))) d.wrote moves_is.log
+  pub wrote_is : IsFront r.front (log_text (step d.so_far.last.state (machine.Closed serial)))
+  wrote_is = front-on r.front (log_text d.so_far.last.state) (log_text (step d.so_far.last.state (machine.Closed serial))) d.so_far.wrote moves_is.log
+
+  abbrev pub leave-cut : LeftSoFar state leads r turns hub'
+  leave-cut = record {
+    run = d.so_far.run;
+    judge = d.so_far.judge;
+    leaves = d.so_far.leaves ++ act.Close serial ∷ [];
+    last = judge_after d.so_far.last (act.Close serial);
+    between = d.so_far.between;
+    made = d.so_far.made;
+    left = left_is;
+    waits = d.so_far.waits;
+    faults = faults_is;
+    led = trans r.hub hub hub' d.so_far.led led;
+    wrote = wrote_is;
+  }
 
   pub leave-more : Steps departs core core' (machine.Closed serial) → Departing departs state leads r end turns core' hub' rest
   leave-more steps =
-      let k : Judge = judge_after d.last (act.Close serial) in
+      let k : Judge = judge_after d.so_far.last (act.Close serial) in
       record {
-        run = d.run;
-        judge = d.judge;
-        leaves = d.leaves ++ act.Close serial ∷ [];
-        last = k;
-        between = d.between;
-        made = d.made;
-        left = left_is;
-        waits = d.waits;
-        faults = faults_is;
-        led = trans r.hub hub hub' d.led led;
-        open_now = moves_is.open_now ∙ ap (filter (λ n. not (n == serial))) d.open_now ∙ rest-left 0 serial rest (subst (Rise 0) d.open_now (serials-rise r.origin d.last.latest d.last.state d.reached).rise);
+        so_far = leave-cut;
+        open_now = moves_is.open_now ∙ ap (filter (λ n. not (n == serial))) d.open_now ∙ rest-left 0 serial rest (subst (Rise 0) d.open_now (serials-rise r.origin d.so_far.last.latest d.so_far.last.state d.reached).rise);
         reached = moves_is.reached;
-        departed = steps r.origin d.last.latest r.front d.last.state d.reached open_is d.departed;
-        wrote = wrote_is;
+        departed = steps r.origin d.so_far.last.latest r.front d.so_far.last.state d.reached open_is d.departed;
         place = ap (λ (p : Place). place_after p (act.Close serial) k.flags k.state) d.place;
         cause = d.cause;
       }
-
-  pub leave-cut : LeftShort state leads r turns hub'
-  leave-cut = record {
-    run = d.run;
-    judge = d.judge;
-    leaves = d.leaves ++ act.Close serial ∷ [];
-    last = judge_after d.last (act.Close serial);
-    between = d.between;
-    made = d.made;
-    left = left_is;
-    waits = d.waits;
-    faults = faults_is;
-    led = trans r.hub hub hub' d.led led;
-    wrote = wrote_is;
-  }
 
 -- those that are left rise too
 pub rise-drop : (ns : List ℕ) (low i : ℕ) → Rise low ns → (l : ℕ) × Rise l (drop i ns)

@@ -31,30 +31,8 @@ EndsBy ends.TurnsSpent turns run j = (waits_in run ≡ turns) × (j.place ≡ Wa
 EndsBy ends.WriteFault turns run j = Unit {0}
 EndsBy ends.OutOfMemory turns run j = Unit {0}
 
--- after the turns, which came to that end, the connections leave; those of the rest are still to be
--- closed
-pub record Departing {E H : Type 0} (departs : E → List ℕ → State → Type 0) (state : H → HubState)
-    (leads : H → H → Type 0) (r : Course H) (end : ServeEnd) (turns : ℕ) (core : E) (hub : H)
-    (rest : List ℕ) : Type 0 where
-  pub run : List Act
-  pub judge : Judge
-  pub leaves : List Act
-  pub last : Judge
-  pub between : HubState
-  pub made : Made (first_of r) (state r.hub) between run judge
-  pub left : Made (leaving judge) between (state hub) leaves last
-  pub waits : waits_in run ≤ turns
-  pub faults : Counts r.failed (state r.hub).faults (state hub).faults
-  pub led : leads r.hub hub
-  pub open_now : serials last.state.connections ≡ rest
-  pub reached : Reached r.origin last.latest last.state
-  pub departed : departs core r.front last.state
-  pub wrote : IsFront r.front (log_text last.state)
-  pub place : last.place ≡ Leaves rest
-  pub cause : EndsBy end turns run judge
-
--- memory ran out as the connections left
-pub record LeftShort {H : Type 0} (state : H → HubState) (leads : H → H → Type 0) (r : Course H)
+-- after the turns, connections left
+pub record LeftSoFar {H : Type 0} (state : H → HubState) (leads : H → H → Type 0) (r : Course H)
     (turns : ℕ) (hub : H) : Type 0 where
   pub run : List Act
   pub judge : Judge
@@ -67,6 +45,18 @@ pub record LeftShort {H : Type 0} (state : H → HubState) (leads : H → H → 
   pub faults : Counts r.failed (state r.hub).faults (state hub).faults
   pub led : leads r.hub hub
   pub wrote : IsFront r.front (log_text last.state)
+
+-- after the turns, which came to that end, the connections leave; those of the rest are still to be
+-- closed
+pub record Departing {E H : Type 0} (departs : E → List ℕ → State → Type 0) (state : H → HubState)
+    (leads : H → H → Type 0) (r : Course H) (end : ServeEnd) (turns : ℕ) (core : E) (hub : H)
+    (rest : List ℕ) : Type 0 where
+  pub so_far : LeftSoFar state leads r turns hub
+  pub open_now : serials so_far.last.state.connections ≡ rest
+  pub reached : Reached r.origin so_far.last.latest so_far.last.state
+  pub departed : departs core r.front so_far.last.state
+  pub place : so_far.last.place ≡ Leaves rest
+  pub cause : EndsBy end turns so_far.run so_far.judge
 
 -- ---- the end of the turns
 

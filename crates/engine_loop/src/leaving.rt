@@ -5,7 +5,7 @@ ghost use Rattle.reached_states.specs.OpenSerials.{Rise};
 ghost use Rattle.engine_loop.specs.declared.serve_end.ServeEnd.{ServeEnd as End};
 ghost use Rattle.engine_loop.specs.Watches.{serials_in};
 ghost use Rattle.engine_loop.specs.Stages.{Course, After};
-ghost use Rattle.engine_loop.specs.Ends.{Departing, LeftShort};
+ghost use Rattle.engine_loop.specs.Ends.{Departing, LeftSoFar};
 
 use crate::watch::Watch;
 use hub_acts::Hub;
@@ -22,7 +22,7 @@ fn leave_once<E: Engine, H: Hub>(core: &mut E, hub: &mut H, serial: u64) -> Resu
     ensures leaves { (r : Course H) (end : End) (turns : ℕ) (rest : List ℕ)
         → Departing E.departs H.state H.leads r end turns core.old hub.old (serial ∷ rest)
         → After result (Departing E.departs H.state H.leads r end turns core.new hub.new rest)
-        (LeftShort H.state H.leads r turns hub.new) }
+        (LeftSoFar H.state H.leads r turns hub.new) }
 {
     hub.close(serial)?;
     core.closed(serial)?;
@@ -40,7 +40,7 @@ pub(crate) fn leave_each<E: Engine, H: Hub>(
     ensures leaves { (r : Course H) (end : End) (turns : ℕ)
         → Departing E.departs H.state H.leads r end turns core.old hub.old (serials_in watch.now)
         → After result (Departing E.departs H.state H.leads r end turns core.new hub.new [])
-        (LeftShort H.state H.leads r turns hub.new) }
+        (LeftSoFar H.state H.leads r turns hub.new) }
 {
     for stream in &watch.streams {
         leave_once(core, hub, stream.serial)?;
