@@ -6,10 +6,7 @@ use Rattle.hub_acts.specs.declared.answers.CallFault.{CallFault}
 use Rattle.hub_acts.specs.declared.answers.CallFault.TheVariants as fault
 use Rattle.hub_acts.specs.Acts.{listen_act}
 use Rattle.hub_acts.specs.Hubs.{HubState, HubCalls}
-use Rattle.reached_states.specs.Reaching.{Origin, start_of}
-use Rattle.server_core.specs.declared.server.ServerCore.{ServerCore}
-use Rattle.server_core.specs.Standing.{Stands, nothing_told}
-use Rattle.server_core.specs.Serving.{Serves as ServesIn}
+use Rattle.reached_states.specs.Reaching.{Origin}
 use Rattle.engine_loop.specs.declared.serve_end.ServeEnd.{ServeEnd}
 use Rattle.engine_loop.specs.declared.serve_end.ServeEnd.TheVariants as ends
 use Rattle.engine_loop.specs.Serving.{IsNewHub, HubCounts, LogsTo}
@@ -17,12 +14,6 @@ use Rattle.hub_serving.specs.Serving.{end_without, RunsServer, not_begun, ran, S
 use Rattle.hub_serving.specs.Serving.{not_listening, listened, OutputCounts}
 
 -- ---- the start
-
--- a server that begins serves the first state
-pub serves-first : (o : Origin) (core : ServerCore) → Stands nothing_told core (start_of o)
-    → ServesIn [] core (start_of o)
-serves-first o core h =
-    record { beside = nothing_told; front_is = refl; rests = λ serial. (refl, refl); stands = h }
 
 -- a hub that listens has accepted nothing
 pub still_new : (port : ℕ) (old new : HubState) → HubCalls (Some (act.Listen port (Ok tt))) old new

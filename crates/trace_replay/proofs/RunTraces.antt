@@ -10,11 +10,8 @@ use Rattle.hub_acts.specs.declared.act.Act.{Act}
 use Rattle.hub_mem.specs.Answers.{Played, hub_state}
 use Rattle.hub_mem.specs.Playing.{PlaysOn, AreGiven}
 use Rattle.machine.specs.States.{State}
-use Rattle.reached_states.specs.Reaching.{Origin, start_of}
 use Rattle.attentive_acts.specs.Judging.{leaving}
 use Rattle.server_core.specs.declared.server.ServerCore.{ServerCore}
-use Rattle.server_core.specs.Standing.{Stands, nothing_told}
-use Rattle.server_core.specs.Serving.{Serves as ServesIn}
 use Rattle.engine_loop.specs.declared.serve_end.ServeEnd.{ServeEnd}
 use Rattle.engine_loop.specs.declared.serve_end.ServeEnd.TheVariants as ends
 use Rattle.engine_loop.specs.Ends.{EndsBy}
@@ -27,10 +24,6 @@ use Rattle.trace_replay.specs.Switches.{ReplayedWith, AreSwitches}
 
 known_are : (xs ys : List Act) → (let o : Option (List Act) = Some xs in o) ≡ Some ys → xs ≡ ys
 known_are xs ys e = cc
-
--- a server that begins serves the first state
-pub serves-first : (o : Origin) (core : ServerCore) → Stands nothing_told core (start_of o) → ServesIn [] core (start_of o)
-serves-first o core h = record { beside = nothing_told; front_is = refl; rests = λ serial. (refl, refl); stands = h }
 
 -- before any act memory ran out
 pub not_begun : (config : Configuration) (script : ScriptText) (trace : List TraceLine) (old : SinkState) → Replayed config script trace ends.OutOfMemory old old

@@ -1,4 +1,4 @@
-use Rattle.trace_replay.proofs.RunTraces.{not_begun_with, replayed_with, serves-first}
+use Rattle.trace_replay.proofs.RunTraces.{not_begun_with, replayed_with}
 use Rattle.trace_replay.proofs.TraceEnds.{ends_by_trace}
 use Rattle.trace_replay.specs.Replaying.{origin_of}
 use Rattle.trace_replay.proofs.running.replay_with_switches.Goals as goal
@@ -7,7 +7,7 @@ pub returns : goal.returns
 returns g c =
     let o = origin_of c.args.config c.args.script in
     let all = replayed_with c.args.config c.args.script c.args.trace c.turns_of-turns.result c.serve-end.result c.sequence.result c.serve-end.new.core _ _ _ _
-    c.in-Ok.ensures c.turns_of-turns.ensures.count c.sequence.ensures.leaves (c.serve-end.ensures o (serves-first o _ c.in-Ok-new.ensures.stands)) in
+    c.in-Ok.ensures c.turns_of-turns.ensures.count c.sequence.ensures.leaves (c.serve-end.ensures o c.in-Ok-new.ensures.runs.is_in) in
     record { replayed = all; ends = ends_by_trace c.args.config c.args.script c.args.trace c.serve-end.result _ _ c.turns_of-turns.ensures.sound all.run }
 
 pub returns-in_default : goal.returns-in_default
@@ -16,4 +16,4 @@ returns-in_default g c = record { replayed = not_begun_with c.args.config c.args
 pub serve-end-requires-clause-starts : goal.serve-end-requires-clause-starts
 serve-end-requires-clause-starts g c =
     let o = origin_of c.args.config c.args.script in
-    (o, serves-first o c.in-Ok-new.core c.in-Ok-new.ensures.stands)
+    (o, c.in-Ok-new.ensures.runs.is_in)
