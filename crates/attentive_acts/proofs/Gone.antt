@@ -100,9 +100,9 @@ parted_gone c serial why now cs on h = each_gone c serial (parted why now) (λ k
 
 pub invariant : (c : ℕ) → IsInvariant any any_origin (Gone c)
 invariant c = of-connections (λ cs. list_all (gone_if c) cs ≡ true)
-  (λ serial f tame same none cs h. each_gone c serial f (λ k mine. kept_gone c f tame none k) cs h)
-  (λ why serial now cs on h. parted_gone c serial why now cs on h)
-  (λ serial s off h. each_gone c serial drops (λ k mine. dropped_gone c k) s.connections h)
+    (λ serial f tame same none cs h. each_gone c serial f (λ k mine. kept_gone c f tame none k) cs h)
+    (λ why serial now cs on h. parted_gone c serial why now cs on h)
+    (λ serial s off h. each_gone c serial drops (λ k mine. dropped_gone c k) s.connections h)
 
 pub stays-gone : (c : ℕ) (s : State) (h : Happening) → (h ≡ Joined c → ⊥) → HasGone c s → HasGone c (step s h)
 stays-gone c s (Joined serial) other k = accept-keeps (invariant c) serial s (all_append (gone_if c) s.connections (fresh serial s.at ∷ []) k (at (serial == c) refl))

@@ -44,9 +44,9 @@ FewLive n v = live_count v.connections ≤ n
 
 pub invariant : (n : ℕ) → IsInvariant any any_origin (FewLive n)
 invariant n = of-connections (λ cs. live_count cs ≤ n)
-  (λ serial f tame same none cs h. let less = changed-fewer serial f tame cs in omega arith)
-  (λ cause serial now cs on h. let less = changed-fewer serial (parted cause now) (parted-tame cause now) cs in omega arith)
-  (λ serial s off h. let less = changed-fewer serial drops drops-tame s.connections in omega arith)
+    (λ serial f tame same none cs h. let less = changed-fewer serial f tame cs in omega arith)
+    (λ cause serial now cs on h. let less = changed-fewer serial (parted cause now) (parted-tame cause now) cs in omega arith)
+    (λ serial s off h. let less = changed-fewer serial drops drops-tame s.connections in omega arith)
 
 -- ---- a parting
 

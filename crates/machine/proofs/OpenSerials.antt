@@ -22,9 +22,9 @@ changed-serials serial f tame (c ∷ cs) = at (has_serial serial c) (changed-ser
 
 pub invariant : (those : List ℕ) → IsInvariant any any_origin (HasSerials those)
 invariant those = of-connections (λ cs. serials cs ≡ those)
-  (λ serial f tame same none cs h. changed-serials serial f tame cs ∙ h)
-  (λ cause serial now cs on h. changed-serials serial (parted cause now) (parted-tame cause now) cs ∙ h)
-  (λ serial s off h. changed-serials serial drops drops-tame s.connections ∙ h)
+    (λ serial f tame same none cs h. changed-serials serial f tame cs ∙ h)
+    (λ cause serial now cs on h. changed-serials serial (parted cause now) (parted-tame cause now) cs ∙ h)
+    (λ serial s off h. changed-serials serial drops drops-tame s.connections ∙ h)
 
 pub removed-serials : (serial : ℕ) (cs : List Connection) → serials (removed serial cs) ≡ filter (λ n. not (n == serial)) (serials cs)
 removed-serials serial [] = refl

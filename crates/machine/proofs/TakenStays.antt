@@ -72,9 +72,9 @@ removed_stays n count serial (d ∷ cs) h c e = by (has_serial serial d) (has_se
 
 pub invariant : (n count : ℕ) → IsInvariant any any_origin (TakenStays n count)
 invariant n count = of-connections (HasTaken n count)
-  (λ serial f tame same none cs h. changed_stays n count serial f tame same cs h)
-  (λ cause serial now cs on h. changed_stays n count serial (parted cause now) (parted-tame cause now) (λ c. refl) cs h)
-  (λ serial s off h. changed_stays n count serial drops drops-tame (λ c. refl) s.connections h)
+    (λ serial f tame same none cs h. changed_stays n count serial f tame same cs h)
+    (λ cause serial now cs on h. changed_stays n count serial (parted cause now) (parted-tame cause now) (λ c. refl) cs h)
+    (λ serial s off h. changed_stays n count serial drops drops-tame (λ c. refl) s.connections h)
 
 -- ---- what is taken
 

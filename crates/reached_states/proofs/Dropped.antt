@@ -74,15 +74,15 @@ changed_apart serial f tame none cs h = record {
 
 invariant : IsInvariant any any_origin Apart
 invariant = of-connections AreApart
-  (λ serial f tame same none cs h. changed_apart serial f tame none cs h)
-  (λ why serial now cs on h. record {
-    rise = subst (Rise 0) (sym (changed-serials serial (parted why now) (parted-tame why now) cs)) h.rise;
-    apart = each-kept is_apart (parted why now) serial (λ c e. or-true (not (parted why now c).is_dropped)) cs h.apart;
-  })
-  (λ serial s off h. record {
-    rise = subst (Rise 0) (sym (changed-serials serial drops drops-tame s.connections)) h.rise;
-    apart = dropped_apart 0 serial s.connections h.rise off h.apart;
-  })
+    (λ serial f tame same none cs h. changed_apart serial f tame none cs h)
+    (λ why serial now cs on h. record {
+      rise = subst (Rise 0) (sym (changed-serials serial (parted why now) (parted-tame why now) cs)) h.rise;
+      apart = each-kept is_apart (parted why now) serial (λ c e. or-true (not (parted why now c).is_dropped)) cs h.apart;
+    })
+    (λ serial s off h. record {
+      rise = subst (Rise 0) (sym (changed-serials serial drops drops-tame s.connections)) h.rise;
+      apart = dropped_apart 0 serial s.connections h.rise off h.apart;
+    })
 
 opened_apart : (latest serial : ℕ) (s : State) → latest < serial → On (BelowLatest latest) s → On Apart s → On Apart (opened serial s)
 opened_apart latest serial s above below h =

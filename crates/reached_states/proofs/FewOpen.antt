@@ -174,9 +174,9 @@ few_parted serial why now cs on h =
 
 invariant : IsInvariant any any_origin Few
 invariant = of-connections AreFew
-  (λ serial f tame same none cs h. few_changed serial f tame none cs h)
-  (λ why serial now cs on h. few_parted serial why now cs on h)
-  (λ serial s off h. few_dropped serial s.connections h)
+    (λ serial f tame same none cs h. few_changed serial f tame none cs h)
+    (λ why serial now cs on h. few_parted serial why now cs on h)
+    (λ serial s off h. few_dropped serial s.connections h)
 
 -- ---- a new connection
 
