@@ -1,6 +1,6 @@
-use server_log::*;
 use hello_states::PartCause;
 use message_codec::Msg;
+use server_log::*;
 use share_base::{ClipId, OutOfMemory, Reason, ScreenName};
 use std::test::*;
 

@@ -1,5 +1,5 @@
-use pressed_inputs::*;
 use modifier_map::ModClass;
+use pressed_inputs::*;
 use share_base::{Button, KeyId, Mask, MouseButton, RuleNo};
 
 const SHIFT_L: KeyId = KeyId(0xefe1);

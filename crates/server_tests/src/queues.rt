@@ -1,5 +1,5 @@
-use send_queue::*;
 use message_codec::Msg;
+use send_queue::*;
 use share_base::OutOfMemory;
 use std::alloc::Global;
 use std::test::*;
