@@ -2,18 +2,15 @@
 
 ghost use Rattle.screen_crossing.specs.Showing.{IsPlaced};
 
+use crate::screens::{DESK, PAD, desk_and_pad};
 use edge_cross::Waiting;
 use option_table::OptionName;
 use screen_config::Config;
 use screen_crossing::*;
 use screen_links::{Link, Range};
-use share_base::{LAST_MOMENT, Mask, ScreenName, ScreenNo, ScreenSet, Shape, Side};
+use share_base::{LAST_MOMENT, Mask, ScreenSet, Shape, Side};
 use std::alloc::Global;
 use std::test::*;
-
-const DESK: ScreenNo = ScreenNo(0);
-
-const PAD: ScreenNo = ScreenNo(1);
 
 const DESK_SHAPE: Shape = Shape {
     x: 0,
@@ -28,20 +25,6 @@ const PAD_SHAPE: Shape = Shape {
     w: 1024,
     h: 768,
 };
-
-fn add_screen(config: &mut Config, name: &[u8]) -> Result<(), Fail> {
-    if config.count() >= 64 {
-        return Err(Fail::new("a 65th screen"));
-    }
-    let None = config.find(name) else {
-        return Err(Fail::new("a screen of that name"));
-    };
-    let Some(name) = ScreenName::read(name) else {
-        return Err(Fail::new("no name"));
-    };
-    config.add_screen(name)?;
-    Ok(())
-}
 
 /// The right side of desk leads to the left side of pad.
 fn link(config: &mut Config) -> Result<(), Fail> {
@@ -68,10 +51,8 @@ fn need_shift(config: &mut Config) {
     config.set_global(OptionName::SwitchNeedsShift, 1);
 }
 
-fn desk_and_pad(alloc: Global) -> Result<Config, Fail> {
-    let mut config = Config::new(alloc);
-    add_screen(&mut config, b"desk")?;
-    add_screen(&mut config, b"pad")?;
+fn linked_screens(alloc: Global) -> Result<Config, Fail> {
+    let mut config = desk_and_pad(alloc)?;
     link(&mut config)?;
     need_shift(&mut config);
     Ok(config)
@@ -132,7 +113,7 @@ fn place_beside(config: &Config, row: Row, side: Side) -> Option<u32> {
 
 #[test]
 fn motions_leave_on_open_edges(rt: HostRuntime) -> Result<(), Fail> {
-    let config = desk_and_pad(rt.alloc())?;
+    let config = linked_screens(rt.alloc())?;
     for row in ROWS {
         assert_eq!(rt; place_of_way(&config, row), row.6);
         assert_eq!(rt; place_beside(&config, row, Side::Right), Some(500_462));

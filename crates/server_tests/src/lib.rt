@@ -22,4 +22,6 @@ mod presses;
 #[cfg(test)]
 mod queues;
 #[cfg(test)]
+mod screens;
+#[cfg(test)]
 mod tallies;

@@ -1,40 +1,14 @@
 //! Phases of a connection.
 
+use crate::screens::{DESK, PAD, desk_and_pad};
 use hello_states::*;
 use message_codec::encode;
-use screen_config::Config;
-use share_base::{Octets, Reason, ScreenName, ScreenNo, ScreenSet, Shape, ShortLine};
+use share_base::{Octets, Reason, ScreenSet, Shape, ShortLine};
 use std::alloc::Global;
 use std::test::*;
 
-const DESK: ScreenNo = ScreenNo(0);
-
-const PAD: ScreenNo = ScreenNo(1);
-
 /// The moment of a bad shape, and of a bad answer.
 const NOW: u64 = 50;
-
-fn add_screen(config: &mut Config, name: &[u8]) -> Result<(), Fail> {
-    if config.count() >= 64 {
-        return Err(Fail::new("a 65th screen"));
-    }
-    let None = config.find(name) else {
-        return Err(Fail::new("a screen of that name"));
-    };
-    let Some(name) = ScreenName::read(name) else {
-        return Err(Fail::new("no name"));
-    };
-    config.add_screen(name)?;
-    Ok(())
-}
-
-/// The screens `desk` and `pad`, and the default rate of 3,000.
-fn desk_and_pad(alloc: Global) -> Result<Config, Fail> {
-    let mut config = Config::new(alloc);
-    add_screen(&mut config, b"desk")?;
-    add_screen(&mut config, b"pad")?;
-    Ok(config)
-}
 
 /// The connection 7, accepted at 40 and asked as pad.
 fn asked_pad(alloc: Global) -> Result<Asked, Fail> {

@@ -77,10 +77,10 @@ at_first kept input out k = record {
 }
 
 -- a read gave so many bytes, of which so many count, and the core was fed them
-pub at_fed : (kept next : List ℕ → List Msg → List ℕ → Type 0) (total n few : ℕ) (buffer : List ℕ) (input l l' : SourceState) (out o : SinkState) → (a : At kept total input l out o) → ReadsOne (answer.Got n) buffer l l' → n ≤ length buffer → total ≤ INPUT_LIMIT → few ≡ min n (INPUT_LIMIT - total) → AreBytes buffer
+pub at_fed : {kept next : List ℕ → List Msg → List ℕ → Type 0} {total n few : ℕ} {buffer : List ℕ} {input l l' : SourceState} {out o : SinkState} → (a : At kept total input l out o) → ReadsOne (answer.Got n) buffer l l' → n ≤ length buffer → total ≤ INPUT_LIMIT → few ≡ min n (INPUT_LIMIT - total) → AreBytes buffer
     → ((stream : List ℕ) (messages : List Msg) (taken : List ℕ) → kept stream messages taken → (more : List Msg) × next (stream ++ take few buffer) (messages ++ more) taken)
     → At next (total + n) input l' out o
-at_fed kept next total n few buffer input l l' out o a r fits within few-is small fed =
+at_fed {next} {n} {few} {buffer} {l'} a r fits within few-is small fed =
     let piece : List ℕ = take n buffer in
     let long : length piece ≡ n = omega (arith, length-take n buffer, fits) in
     let same : min n (INPUT_LIMIT - length a.read) ≡ few = omega (arith, few-is, a.total_is) in
@@ -98,9 +98,9 @@ at_fed kept next total n few buffer input l l' out o a r fits within few-is smal
     }
 
 -- its lines were written, and taken from it
-pub at_written : (kept next : List ℕ → List Msg → List ℕ → Type 0) (total : ℕ) (input l : SourceState) (out o o' : SinkState) (lines : List ℕ) → (a : At kept total input l out o) → o'.taken ≡ after o.taken lines
+pub at_written : {kept next : List ℕ → List Msg → List ℕ → Type 0} {total : ℕ} {input l : SourceState} {out o o' : SinkState} (lines : List ℕ) → (a : At kept total input l out o) → o'.taken ≡ after o.taken lines
     → ((stream : List ℕ) (messages : List Msg) (taken : List ℕ) → kept stream messages taken → next stream messages (taken ++ lines)) → At next total input l out o'
-at_written kept next total input l out o o' lines a all cleared = record {
+at_written {out} lines a all cleared = record {
   read = a.read;
   bytes = a.bytes;
   messages = a.messages;
@@ -110,6 +110,14 @@ at_written kept next total input l out o o' lines a all cleared = record {
   kept_is = cleared (counted a.read) a.messages a.written a.kept_is;
   taken_is = all ∙ ap (λ (t : Option (List ℕ)). after t lines) a.taken_is ∙ after-after out.taken a.written lines;
 }
+
+-- both
+pub at_next : {kept next cleared : List ℕ → List Msg → List ℕ → Type 0} {total n few : ℕ} {buffer printed lines : List ℕ} {input l l' : SourceState} {out o o' : SinkState} → (a : At kept total input l out o) → ReadsOne (answer.Got n) buffer l l' → n ≤ length buffer → total ≤ INPUT_LIMIT → few ≡ min n (INPUT_LIMIT - total) → AreBytes buffer
+    → ((stream : List ℕ) (messages : List Msg) (taken : List ℕ) → kept stream messages taken → (more : List Msg) × next (stream ++ take few buffer) (messages ++ more) taken)
+    → o'.taken ≡ after o.taken printed → printed ≡ lines
+    → ((stream : List ℕ) (messages : List Msg) (taken : List ℕ) → next stream messages taken → cleared stream messages (taken ++ lines)) → At cleared (total + n) input l' out o'
+at_next {lines} {o} {o'} a r fits within few-is small fed all same clears =
+    at_written lines (at_fed a r fits within few-is small fed) (subst (λ (t : List ℕ). o'.taken ≡ after o.taken t) same all) clears
 
 -- ---- ends that bytes decide
 
@@ -174,16 +182,16 @@ has_ended w stream None end v messages is h = absurd cc
 has_ended w stream (Some status.OutOfMemory) end v messages is h = inr (same_Some end status.OutOfMemory is, h)
 has_ended w stream (Some x) end v messages is h = inl (sym (is ∙ h.0), h.1)
 
-pub feed_fits : (w : Way) (kept : List ℕ → List Msg → List ℕ → Type 0) (lines : List ℕ) (done : Option Status) (fed total few : ℕ) (buffer : List ℕ) (input l : SourceState) (out o : SinkState) → (a : At kept total input l out o) → ((stream : List ℕ) (messages : List Msg) (taken : List ℕ) → kept stream messages taken → Keeps w lines done fed stream messages taken)
+pub feed_fits : {w : Way} {kept : List ℕ → List Msg → List ℕ → Type 0} {lines : List ℕ} {done : Option Status} {fed total : ℕ} (few : ℕ) (buffer : List ℕ) {input l : SourceState} {out o : SinkState} → (a : At kept total input l out o) → ((stream : List ℕ) (messages : List Msg) (taken : List ℕ) → kept stream messages taken → Keeps w lines done fed stream messages taken)
     → total ≤ INPUT_LIMIT → few ≤ INPUT_LIMIT - total → fed + length (take few buffer) < 2 ^ 63
-feed_fits w kept lines ended fed total few buffer input l out o a keeps within little =
+feed_fits few buffer a keeps within little =
     let k = keeps (counted a.read) a.messages a.written a.kept_is in
     omega (arith, k.total_is, a.total_is, length-take few buffer, ap length (take_all INPUT_LIMIT a.read (omega (arith, a.total_is))))
 
 -- that read is rightly made
-pub stops_here : (w : Way) (kept : List ℕ → List Msg → List ℕ → Type 0) (lines : List ℕ) (done : Option Status) (fed total : ℕ) (input l l' : SourceState) (out o : SinkState) → (a : At kept total input l out o) → ((stream : List ℕ) (messages : List Msg) (taken : List ℕ) → kept stream messages taken → Keeps w lines done fed stream messages taken)
+pub stops_here : {w : Way} {kept : List ℕ → List Msg → List ℕ → Type 0} {lines : List ℕ} {done : Option Status} {fed total : ℕ} {input l l' : SourceState} {out o : SinkState} → (a : At kept total input l out o) → ((stream : List ℕ) (messages : List Msg) (taken : List ℕ) → kept stream messages taken → Keeps w lines done fed stream messages taken)
     → done ≡ None → NotSet l.ended → total ≤ INPUT_LIMIT → l'.left_before ≡ l.left → l'.ended_before ≡ l.ended → Stops w input l'
-stops_here w kept lines ended fed total input l l' out o a keeps none unset within left-before ended-before =
+stops_here {w} {done = ended} a keeps none unset within left-before ended-before =
     let k = keeps (counted a.read) a.messages a.written a.kept_is in
     let v : Verdict (plain w.sender) (counted a.read) = k.prints.verdict in
     let all : counted a.read ≡ a.read = take_all INPUT_LIMIT a.read (omega (arith, a.total_is)) in
@@ -216,9 +224,9 @@ front_of_all status.OutOfMemory messages all h = h
 front_of_all _ messages all h = ([], sym h ∙ sym (append-nil messages))
 
 -- writing the lines of a piece failed
-pub reads_write_fault : (w : Way) (kept : List ℕ → List Msg → List ℕ → Type 0) (lines : List ℕ) (done : Option Status) (fed total : ℕ) (input l : SourceState) (out o o' : SinkState) → (a : At kept total input l out o) → ((stream : List ℕ) (messages : List Msg) (taken : List ℕ) → kept stream messages taken → Keeps w lines done fed stream messages taken)
+pub reads_write_fault : {w : Way} {kept : List ℕ → List Msg → List ℕ → Type 0} {lines : List ℕ} {done : Option Status} {fed total : ℕ} {input l : SourceState} {out o o' : SinkState} → (a : At kept total input l out o) → ((stream : List ℕ) (messages : List Msg) (taken : List ℕ) → kept stream messages taken → Keeps w lines done fed stream messages taken)
     → TakesFront lines o.taken o'.taken → Reads w status.WriteFault input l out o'
-reads_write_fault w kept lines ended fed total input l out o o' a keeps front =
+reads_write_fault {w} {lines} {done = ended} {out} {o} {o'} a keeps front =
     let k = keeps (counted a.read) a.messages a.written a.kept_is in record {
       read = a.read;
       bytes = a.bytes;
@@ -277,10 +285,10 @@ all_written w lines ended fed stream messages written k none = sym (append-nil w
 -- ---- the exits
 
 -- of a command that goes on before the end: at a fault of the input, or past the limit
-pub finished_open : (w : Way) (kept : List ℕ → List Msg → List ℕ → Type 0) (end result : Status) (lines : List ℕ) (done : Option Status) (fed total : ℕ) (input l l' : SourceState) (out o o' : SinkState) → (a : At kept total input l out o) → ((stream : List ℕ) (messages : List Msg) (taken : List ℕ) → kept stream messages taken → Keeps w lines done fed stream messages taken)
+pub finished_open : {w : Way} {kept : List ℕ → List Msg → List ℕ → Type 0} {end result : Status} {lines : List ℕ} {done : Option Status} {fed total : ℕ} {input l l' : SourceState} {out o o' : SinkState} → (a : At kept total input l out o) → ((stream : List ℕ) (messages : List Msg) (taken : List ℕ) → kept stream messages taken → Keeps w lines done fed stream messages taken)
     → lines ≡ [] → done ≡ None → l'.left ≡ l.left → ((v : VerdictOn w a.read) → decided w v ≡ None → EndsAt w end a.read v l') → ((messages all : List Msg) → messages ≡ all → IsPrinted end messages all) → (end ≢ status.WriteFault)
     → ((stream : List ℕ) (messages : List Msg) (taken : List ℕ) → kept stream messages taken → Finishes w end result messages o o') → Reads w result input l' out o'
-finished_open w kept end result lines ended fed total input l l' out o o' a keeps empty none same ends prints fine finishes =
+finished_open {w} {end} {result} {lines} {done = ended} {fed} {input} {l'} {out} {o} {o'} a keeps empty none same ends prints fine finishes =
     let k = keeps (counted a.read) a.messages a.written a.kept_is in
     let v : VerdictOn w a.read = k.prints.verdict in
     let goes = goes_on w (counted a.read) ended v a.messages none k.prints.ended in
@@ -288,10 +296,10 @@ finished_open w kept end result lines ended fed total input l l' out o o' a keep
     (all_written w lines ended fed (counted a.read) a.messages a.written k empty) a.taken_is fine (finishes (counted a.read) a.messages a.written a.kept_is)
 
 -- where the input ends
-pub finished_end : (w : Way) (kept : List ℕ → List Msg → List ℕ → Type 0) (end result : Status) (lines : List ℕ) (done : Option Status) (fed total : ℕ) (buffer : List ℕ) (input l l' : SourceState) (out o o' : SinkState) → (a : At kept total input l out o) → ((stream : List ℕ) (messages : List Msg) (taken : List ℕ) → kept stream messages taken → Keeps w lines done fed stream messages taken)
+pub finished_end : {w : Way} {kept : List ℕ → List Msg → List ℕ → Type 0} {end result : Status} {lines : List ℕ} {done : Option Status} {fed total : ℕ} {buffer : List ℕ} {input l l' : SourceState} {out o o' : SinkState} → (a : At kept total input l out o) → ((stream : List ℕ) (messages : List Msg) (taken : List ℕ) → kept stream messages taken → Keeps w lines done fed stream messages taken)
     → lines ≡ [] → total ≤ INPUT_LIMIT → ReadsOne answer.End buffer l l' → ((stream : List ℕ) (messages : List Msg) (taken : List ℕ) → kept stream messages taken → EndsHere w end stream messages)
     → ((stream : List ℕ) (messages : List Msg) (taken : List ℕ) → kept stream messages taken → Finishes w end result messages o o') → Reads w result input l' out o'
-finished_end w kept end result lines ended fed total buffer input l l' out o o' a keeps empty within r here finishes =
+finished_end {w} {end} {result} {lines} {done = ended} {fed} {input} {l} {l'} {out} {o} {o'} a keeps empty within r here finishes =
     let k = keeps (counted a.read) a.messages a.written a.kept_is in
     let e = here (counted a.read) a.messages a.written a.kept_is in
     let by : IsByBytes end = subst IsByBytes (sym e.end_is) (input_by_bytes w e.verdict.place e.verdict.rest) in
@@ -304,9 +312,9 @@ finished_end w kept end result lines ended fed total buffer input l l' out o o' 
     answered (Some flag) e' ends = subst IsSet (sym ends) refl
 
 -- where the core has ended
-pub finished_stop : (w : Way) (kept : List ℕ → List Msg → List ℕ → Type 0) (end result : Status) (lines : List ℕ) (done : Option Status) (fed total : ℕ) (input l : SourceState) (out o o' : SinkState) → (a : At kept total input l out o) → ((stream : List ℕ) (messages : List Msg) (taken : List ℕ) → kept stream messages taken → Keeps w lines done fed stream messages taken)
+pub finished_stop : {w : Way} {kept : List ℕ → List Msg → List ℕ → Type 0} {end result : Status} {lines : List ℕ} {done : Option Status} {fed total : ℕ} {input l : SourceState} {out o o' : SinkState} → (a : At kept total input l out o) → ((stream : List ℕ) (messages : List Msg) (taken : List ℕ) → kept stream messages taken → Keeps w lines done fed stream messages taken)
     → lines ≡ [] → Some end ≡ done → ((stream : List ℕ) (messages : List Msg) (taken : List ℕ) → kept stream messages taken → Finishes w end result messages o o') → Reads w result input l out o'
-finished_stop w kept end result lines ended fed total input l out o o' a keeps empty is finishes =
+finished_stop {w} {end} {result} {lines} {done = ended} {fed} {input} {l} {out} {o} {o'} a keeps empty is finishes =
     let k = keeps (counted a.read) a.messages a.written a.kept_is in
     let v : VerdictOn w a.read = k.prints.verdict in
     let all = all_written w lines ended fed (counted a.read) a.messages a.written k empty in
@@ -347,17 +355,17 @@ source_by_bytes (status.Refused which) source source' by same = same
 source_by_bytes _ source source' by same = absurd by
 
 -- where the input ends
-pub causes_end : (w : Way) (kept : List ℕ → List Msg → List ℕ → Type 0) (end result : Status) (total : ℕ) (input l l' : SourceState) (out o o' : SinkState) → (a : At kept total input l out o) → ((stream : List ℕ) (messages : List Msg) (taken : List ℕ) → kept stream messages taken → EndsHere w end stream messages) → l'.faults ≡ input.faults → o.faults ≡ out.faults
+pub causes_end : {w : Way} {kept : List ℕ → List Msg → List ℕ → Type 0} {end result : Status} {total : ℕ} {input l : SourceState} (l' : SourceState) {out o o' : SinkState} → (a : At kept total input l out o) → ((stream : List ℕ) (messages : List Msg) (taken : List ℕ) → kept stream messages taken → EndsHere w end stream messages) → l'.faults ≡ input.faults → o.faults ≡ out.faults
     → ((stream : List ℕ) (messages : List Msg) (taken : List ℕ) → kept stream messages taken → Finishes w end result messages o o') → Causes result input l' out o'
-causes_end w kept end result total input l l' out o o' a here source sink finishes =
+causes_end {w} {end} {result} {input} l' {out} {o} {o'} a here source sink finishes =
     let e = here (counted a.read) a.messages a.written a.kept_is in
     let by : IsByBytes end = subst IsByBytes (sym e.end_is) (input_by_bytes w e.verdict.place e.verdict.rest) in
     causes_finished w end result a.messages input l' out o o' (source_by_bytes end input.faults l'.faults by source) sink (fine_by_bytes end by) (finishes (counted a.read) a.messages a.written a.kept_is)
 
 -- where the core has ended
-pub causes_stop : (w : Way) (kept : List ℕ → List Msg → List ℕ → Type 0) (end result : Status) (lines : List ℕ) (done : Option Status) (fed total : ℕ) (input l : SourceState) (out o o' : SinkState) → (a : At kept total input l out o) → ((stream : List ℕ) (messages : List Msg) (taken : List ℕ) → kept stream messages taken → Keeps w lines done fed stream messages taken)
+pub causes_stop : {w : Way} {kept : List ℕ → List Msg → List ℕ → Type 0} {end result : Status} {lines : List ℕ} {done : Option Status} {fed total : ℕ} {input l : SourceState} {out o o' : SinkState} → (a : At kept total input l out o) → ((stream : List ℕ) (messages : List Msg) (taken : List ℕ) → kept stream messages taken → Keeps w lines done fed stream messages taken)
     → Some end ≡ done → l.faults ≡ input.faults → o.faults ≡ out.faults → ((stream : List ℕ) (messages : List Msg) (taken : List ℕ) → kept stream messages taken → Finishes w end result messages o o') → Causes result input l out o'
-causes_stop w kept end result lines ended fed total input l out o o' a keeps is source sink finishes =
+causes_stop {w} {end} {result} {done = ended} {input} {l} {out} {o} {o'} a keeps is source sink finishes =
     let k = keeps (counted a.read) a.messages a.written a.kept_is in
     let v : VerdictOn w a.read = k.prints.verdict in
     let last = finishes (counted a.read) a.messages a.written a.kept_is in

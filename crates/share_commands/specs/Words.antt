@@ -1,6 +1,7 @@
 -- How each command that reads a stream prints it, and what each command leaves as it was.
-use Rattle.std.specs.Prelude.{Option, Some, None}
-use Rattle.command_words.specs.Forms.{Form, Inject, Show, Serve, Join, Generate}
+use Rattle.std.specs.Prelude.{◌≡◌, Bool, true, false, List, Option, Some, None, String}
+use Rattle.std.specs.Global.{Global}
+use Rattle.command_words.specs.Forms.{Form, Inject, Show, Check, Replay, Serve, Join, Names, NoForm}
 use Rattle.share_commands.specs.Ways.{Way, showing, injecting}
 
 -- how it prints, where it reads a stream
@@ -9,12 +10,30 @@ way_of Inject = Some injecting
 way_of (Show end) = Some (showing end)
 way_of _ = None
 
--- a command leaves the files, the input, the hub and the link as they were, but for those that it
--- takes
-abbrev pub Leaves : Form → (files input hub link : Type 0) → Type 0
-Leaves Inject files input hub link = files × hub × link
-Leaves (Show end) files input hub link = files × hub × link
-Leaves (Serve config script port turns) files input hub link = input × link
-Leaves (Join name host port w h script turns) files input hub link = input × hub
-Leaves (Generate n) files input hub link = files × input × hub × link
-Leaves _ files input hub link = input × hub × link
+-- ---- what each command touches
+
+abbrev pub takes_files : Form → Bool
+takes_files (Check config) = true
+takes_files (Replay config script trace) = true
+takes_files (Serve config script port turns) = true
+takes_files (Join name host port w h script turns) = true
+takes_files _ = false
+
+abbrev pub takes_input : Form → Bool
+takes_input Inject = true
+takes_input (Show end) = true
+takes_input _ = false
+
+abbrev pub takes_hub : Form → Bool
+takes_hub (Serve config script port turns) = true
+takes_hub _ = false
+
+abbrev pub takes_link : Form → Bool
+takes_link (Join name host port w h script turns) = true
+takes_link _ = false
+
+-- words that name no command leave it as it was, and so do those that name one that doesn't take it
+abbrev pub LeavesUnless : {A : Type 0} → (Form → Bool) → List (String Global) → A → A → Type 0
+LeavesUnless takes words old new =
+    (NoForm words → new ≡ old)
+    × ((command : Form) → Names command words → takes command ≡ false → new ≡ old)

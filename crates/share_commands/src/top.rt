@@ -3,7 +3,7 @@
 ghost use Rattle.std.specs.Prelude.{◌≡◌};
 ghost use Rattle.share_base.specs.Told.{NotSet};
 ghost use Rattle.engine_loop.specs.Serving.{IsNewHub};
-ghost use Rattle.command_words.specs.Forms.{Form, Inject, Names, NoForm};
+ghost use Rattle.command_words.specs.Forms.{Inject, Names, NoForm};
 ghost use Rattle.share_commands.specs.Causes.{ReadCauses, SinkCounts, CountsHubFaults};
 ghost use Rattle.share_commands.specs.Commands.{Releases};
 ghost use Rattle.share_commands.specs.Joining.{LetsGo, CountsLinkFaults};
@@ -13,7 +13,8 @@ ghost use Rattle.share_commands.specs.TopCall.{IfCheck, IfReplay, IfServe, IfJoi
 ghost use Rattle.share_commands.specs.TopCall.{DoesStream, StopsInTime, ChecksFile, Generates};
 ghost use Rattle.share_commands.specs.TopCall.{Replays, ReplayShares, HasOneOutput};
 ghost use Rattle.share_commands.specs.TopCall.{Serves, ServeShares, Joins};
-ghost use Rattle.share_commands.specs.Words.{Leaves};
+ghost use Rattle.share_commands.specs.Words.{LeavesUnless, takes_files, takes_input, takes_hub};
+ghost use Rattle.share_commands.specs.Words.{takes_link};
 
 use crate::checking::run_check;
 use crate::commands::{run_inject, run_show};
@@ -66,12 +67,11 @@ pub fn run<F: Files, S: Source, H: Hub, L: Link, K: Sink>(
     ensures link_faults { IfJoin words.now (CountsLinkFaults result L.Link link.old link.new) }
     ensures generates { Generates words.now result K.Sink out.old out.new }
     ensures usage { NoForm words.now → result ≡ Status.Usage }
-    ensures untouched { NoForm words.now
-        → (files.new ≡ files.old) × (input.new ≡ input.old) × (hub.new ≡ hub.old)
-        × (link.new ≡ link.old) × (out.new ≡ out.old) }
-    ensures leaves { (command : Form) → Names command words.now
-        → Leaves command (files.new ≡ files.old) (input.new ≡ input.old) (hub.new ≡ hub.old)
-        (link.new ≡ link.old) }
+    ensures files_left { LeavesUnless takes_files words.now files.old files.new }
+    ensures input_left { LeavesUnless takes_input words.now input.old input.new }
+    ensures hub_left { LeavesUnless takes_hub words.now hub.old hub.new }
+    ensures link_left { LeavesUnless takes_link words.now link.old link.new }
+    ensures out_left { NoForm words.now → out.new ≡ out.old }
     ensures causes { ReadCauses result F.Files files.old files.new S.Source input.old input.new }
     ensures write_causes { SinkCounts result (K.state out.old).faults (K.state out.new).faults }
 {

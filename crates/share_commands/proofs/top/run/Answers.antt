@@ -1,6 +1,7 @@
 use Rattle.command_words.specs.declared.command.Command.{Command}
 use Rattle.command_words.specs.Forms.{Check, Replay, Serve, Join, Generate, Names, form_of}
-use Rattle.std.specs.Prelude.{ℕ}
+use Rattle.std.specs.Prelude.{◌≡◌, ℕ, List, String}
+use Rattle.std.specs.Global.{Global}
 use Rattle.std.proofs.Common.{subst}
 use Rattle.share_commands.specs.Replaying.{ReplaysFiles, given_by}
 use Rattle.share_commands.specs.OneOutput.{WritesOneOutput}
@@ -11,6 +12,10 @@ use Rattle.share_commands.specs.Joining.{JoinsFiles, to_join}
 use Rattle.share_commands.specs.Generating.{GeneratesFrom}
 use Rattle.share_commands.proofs.SameWords.{at_replay, at_serve, at_join, same_generate}
 use Rattle.share_commands.proofs.top.run.Goals as goal
+
+-- the words name the command that was read
+named : (words : List (String Global)) (read command : Command) → read ≡ command → Names (form_of read) words → Names (form_of command) words
+named words read command same h = subst (λ (x : Command). Names (form_of x) words) same h
 
 -- ---- the words name no command
 
@@ -67,88 +72,45 @@ returns-in-None-clause-generates g c n names = absurd (c.in-None.ensures.none (G
 pub returns-in-Some-Replay-clause-replays : goal.returns-in-Some-Replay-clause-replays
 returns-in-Some-Replay-clause-replays g c =
     let r = c.in-Some-Replay in
-    let told = g.F.Files.told c.args.files.now in
-    let end = c.run_replay.result in
-    let out = g.K.Sink.state c.args.out.now in
-    let out' = g.K.Sink.state c.run_replay.new.out in
-    at_replay c.args.words.now
-    (λ config script trace. ReplaysFiles end (given_by told config script trace) (g.F.Files.calls c.args.files.now) (g.F.Files.calls c.run_replay.new.files) out out')
-    r.config.now r.script.now r.trace.now
-    (subst (λ (x : Command). Names (form_of x) c.args.words.now) r.field-0-is r.ensures.named) c.run_replay.ensures.replays
+    at_replay c.args.words.now (λ config script trace. ReplaysFiles _ (given_by (g.F.Files.told c.args.files.now) config script trace) _ _ _ _)
+    r.config.now r.script.now r.trace.now (named c.args.words.now _ _ r.field-0-is r.ensures.named) c.run_replay.ensures.replays
 
 pub returns-in-Some-Replay-clause-headline : goal.returns-in-Some-Replay-clause-headline
 returns-in-Some-Replay-clause-headline g c =
     let r = c.in-Some-Replay in
-    let told = g.F.Files.told c.args.files.now in
-    let end = c.run_replay.result in
-    let out = g.K.Sink.state c.args.out.now in
-    let out' = g.K.Sink.state c.run_replay.new.out in
-    at_replay c.args.words.now
-    (λ config script trace. SharesIfRun end (given_by told config script trace) out out')
-    r.config.now r.script.now r.trace.now
-    (subst (λ (x : Command). Names (form_of x) c.args.words.now) r.field-0-is r.ensures.named) c.run_replay.ensures.headline
+    at_replay c.args.words.now (λ config script trace. SharesIfRun _ (given_by (g.F.Files.told c.args.files.now) config script trace) _ _)
+    r.config.now r.script.now r.trace.now (named c.args.words.now _ _ r.field-0-is r.ensures.named) c.run_replay.ensures.headline
 
 pub returns-in-Some-Replay-clause-one_output : goal.returns-in-Some-Replay-clause-one_output
 returns-in-Some-Replay-clause-one_output g c =
     let r = c.in-Some-Replay in
-    let told = g.F.Files.told c.args.files.now in
-    let end = c.run_replay.result in
-    let out = g.K.Sink.state c.args.out.now in
-    let out' = g.K.Sink.state c.run_replay.new.out in
-    at_replay c.args.words.now
-    (λ config script trace. WritesOneOutput end (given_by told config script trace) out out')
-    r.config.now r.script.now r.trace.now
-    (subst (λ (x : Command). Names (form_of x) c.args.words.now) r.field-0-is r.ensures.named) c.run_replay.ensures.one_output
+    at_replay c.args.words.now (λ config script trace. WritesOneOutput _ (given_by (g.F.Files.told c.args.files.now) config script trace) _ _)
+    r.config.now r.script.now r.trace.now (named c.args.words.now _ _ r.field-0-is r.ensures.named) c.run_replay.ensures.one_output
 
 -- ---- serve
 
 pub returns-in-Some-Serve-clause-serves : goal.returns-in-Some-Serve-clause-serves
 returns-in-Some-Serve-clause-serves g c =
     let r = c.in-Some-Serve in
-    let told = g.F.Files.told c.args.files.now in
-    let end = c.run_serve.result in
-    let hub = c.args.hub.now in
-    let hub' = c.run_serve.new.hub in
-    let out = g.K.Sink.state c.args.out.now in
-    let out' = g.K.Sink.state c.run_serve.new.out in
-    at_serve c.args.words.now
-    (λ config script port turns. ServesFiles g.H.Hub.state g.H.Hub.leads end (to_serve told config script port turns) (g.F.Files.calls c.args.files.now) (g.F.Files.calls c.run_serve.new.files) hub hub' out out')
-    r.config.now r.script.now r.port r.turns
-    (subst (λ (x : Command). Names (form_of x) c.args.words.now) r.field-0-is r.ensures.named) c.run_serve.ensures.serves
+    at_serve c.args.words.now (λ config script port turns. ServesFiles _ _ _ (to_serve (g.F.Files.told c.args.files.now) config script port turns) _ _ _ _ _ _)
+    r.config.now r.script.now r.port r.turns (named c.args.words.now _ _ r.field-0-is r.ensures.named) c.run_serve.ensures.serves
 
 pub returns-in-Some-Serve-clause-serve_headline : goal.returns-in-Some-Serve-clause-serve_headline
 returns-in-Some-Serve-clause-serve_headline g c =
     let r = c.in-Some-Serve in
-    let told = g.F.Files.told c.args.files.now in
-    let end = c.run_serve.result in
-    let hub = c.args.hub.now in
-    let hub' = c.run_serve.new.hub in
-    let out = g.K.Sink.state c.args.out.now in
-    let out' = g.K.Sink.state c.run_serve.new.out in
-    at_serve c.args.words.now
-    (λ config script port turns. SharesIfServed g.H.Hub.state end (to_serve told config script port turns) hub hub' out out')
-    r.config.now r.script.now r.port r.turns
-    (subst (λ (x : Command). Names (form_of x) c.args.words.now) r.field-0-is r.ensures.named) c.run_serve.ensures.headline
+    at_serve c.args.words.now (λ config script port turns. SharesIfServed _ _ (to_serve (g.F.Files.told c.args.files.now) config script port turns) _ _ _ _)
+    r.config.now r.script.now r.port r.turns (named c.args.words.now _ _ r.field-0-is r.ensures.named) c.run_serve.ensures.headline
 
 -- ---- join and generate
 
 pub returns-in-Some-Join-clause-joins : goal.returns-in-Some-Join-clause-joins
 returns-in-Some-Join-clause-joins g c =
     let r = c.in-Some-Join in
-    let told = g.F.Files.told c.args.files.now in
-    let calls = g.F.Files.calls c.args.files.now in
-    let calls' = g.F.Files.calls c.run_join.new.files in
-    let out = g.K.Sink.state c.args.out.now in
-    let out' = g.K.Sink.state c.run_join.new.out in
-    at_join c.args.words.now
-    (λ name host port w h script turns. JoinsFiles g.L.Link.state g.L.Link.leads c.run_join.result (to_join told name host port w h script turns) calls calls' c.args.link.now c.run_join.new.link out out')
-    r.name r.host.now r.port r.w r.h r.script.now r.turns
-    (subst (λ (x : Command). Names (form_of x) c.args.words.now) r.field-0-is r.ensures.named) c.run_join.ensures.joins
+    at_join c.args.words.now (λ name host port w h script turns. JoinsFiles _ _ _ (to_join (g.F.Files.told c.args.files.now) name host port w h script turns) _ _ _ _ _ _)
+    r.name r.host.now r.port r.w r.h r.script.now r.turns (named c.args.words.now _ _ r.field-0-is r.ensures.named) c.run_join.ensures.joins
 
 pub returns-in-Some-Generate-clause-generates : goal.returns-in-Some-Generate-clause-generates
 returns-in-Some-Generate-clause-generates g c n names =
     let r = c.in-Some-Generate in
-    let named = subst (λ (x : Command). Names (form_of x) c.args.words.now) r.field-0-is r.ensures.named in
-    let out = g.K.Sink.state c.args.out.now in
-    let out' = g.K.Sink.state c.run_generate.new.out in
-    subst (λ (x : ℕ). GeneratesFrom c.run_generate.result x out out') (same_generate c.args.words.now r.n n named names) c.run_generate.ensures.generates
+    let same = same_generate c.args.words.now r.n n (named c.args.words.now _ _ r.field-0-is r.ensures.named) names in
+    subst (λ (x : ℕ). GeneratesFrom c.run_generate.result x (g.K.Sink.state c.args.out.now) (g.K.Sink.state c.run_generate.new.out)) same c.run_generate.ensures.generates
