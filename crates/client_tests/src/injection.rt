@@ -26,6 +26,11 @@ fn key_down(id: u16, mask: u16, button: u16) -> Msg {
     Msg::KeyDown { id, mask, button }
 }
 
+/// A key is `(id, mask, button)`.
+fn presses(rt: &impl Abort, injector: &mut Injector, key: (u16, u16, u16), want: &[u8]) {
+    applies(rt, injector, key_down(key.0, key.1, key.2), want);
+}
+
 fn key_up(button: u16) -> Msg {
     Msg::KeyUp {
         id: 7,
@@ -45,18 +50,8 @@ fn a_held_key_goes_up_once(rt: HostRuntime) {
     };
     applies(&rt, &mut injector, key_up(38), b"");
     applies(&rt, &mut injector, enter, b"enter 0 384 1 0\n");
-    applies(
-        &rt,
-        &mut injector,
-        key_down(97, 0, 38),
-        b"key down 97 38 0\n",
-    );
-    applies(
-        &rt,
-        &mut injector,
-        key_down(97, 0, 38),
-        b"key rep 97 1 38 0\n",
-    );
+    presses(&rt, &mut injector, (97, 0, 38), b"key down 97 38 0\n");
+    presses(&rt, &mut injector, (97, 0, 38), b"key rep 97 1 38 0\n");
     assert!(rt; !injector.is_clear());
     assert_eq!(rt;
         injector.release_all().as_slice(),
@@ -69,12 +64,7 @@ fn a_held_key_goes_up_once(rt: HostRuntime) {
 #[test]
 fn all_goes_up_before_the_cursor_leaves(rt: HostRuntime) {
     let mut injector = Injector::new(ModMap::new());
-    applies(
-        &rt,
-        &mut injector,
-        key_down(97, 0, 38),
-        b"key down 97 38 0\n",
-    );
+    presses(&rt, &mut injector, (97, 0, 38), b"key down 97 38 0\n");
     applies(
         &rt,
         &mut injector,
@@ -94,26 +84,11 @@ fn all_goes_up_before_the_cursor_leaves(rt: HostRuntime) {
 fn shift_counts_as_control(rt: HostRuntime) {
     let mut injector = Injector::new(ModMap::new());
     injector.set_option(0x4d4d_4653, 2);
-    applies(
-        &rt,
-        &mut injector,
-        key_down(61409, 0, 50),
-        b"key down 61411 50 0\n",
-    );
-    applies(
-        &rt,
-        &mut injector,
-        key_down(97, 1, 38),
-        b"key down 97 38 2\n",
-    );
+    presses(&rt, &mut injector, (61409, 0, 50), b"key down 61411 50 0\n");
+    presses(&rt, &mut injector, (97, 1, 38), b"key down 97 38 2\n");
     injector.reset_options();
     applies(&rt, &mut injector, key_up(50), b"key up 61411 50\n");
-    applies(
-        &rt,
-        &mut injector,
-        key_down(61409, 0, 50),
-        b"key down 61409 50 0\n",
-    );
+    presses(&rt, &mut injector, (61409, 0, 50), b"key down 61409 50 0\n");
 }
 
 #[test]
@@ -123,20 +98,10 @@ fn at_most_512_keys_are_held(rt: HostRuntime) {
         let printed = injector.apply(&key_down(97, 0, button));
         assert!(rt; !printed.as_slice().is_empty(), "at {button}");
     }
-    applies(&rt, &mut injector, key_down(97, 0, 512), b"");
-    applies(
-        &rt,
-        &mut injector,
-        key_down(97, 0, 511),
-        b"key rep 97 1 511 0\n",
-    );
+    presses(&rt, &mut injector, (97, 0, 512), b"");
+    presses(&rt, &mut injector, (97, 0, 511), b"key rep 97 1 511 0\n");
     applies(&rt, &mut injector, key_up(0), b"key up 97 0\n");
-    applies(
-        &rt,
-        &mut injector,
-        key_down(97, 0, 512),
-        b"key down 97 512 0\n",
-    );
+    presses(&rt, &mut injector, (97, 0, 512), b"key down 97 512 0\n");
 }
 
 #[test]
