@@ -130,33 +130,33 @@ def crowd(turns):
     return clients(count), script, trace
 
 
-def full_queues():
-    """One client sends both clipboards twice, and all others are entered after each and take nothing."""
+def full_queues(pause):
+    """One client sends both clipboards twice, and all others are entered after each and take nothing: all at one moment,
+    or with so many milliseconds between two of them."""
     count = MOST_SCREENS - 1
     others = range(1, count)
     data = b"x" * CLIP
-    said = [whole(clip, 0, data) for clip in (0, 1)]
-    sizes = sum(len(text) // 2 for text in said)
+    sizes = sum(len(whole(clip, 0, data)) // 2 for clip in (0, 1))
     reads = "turn {0}\n" * (sizes // 65_536 + 2)
-
-    def twice():
-        yield "primary desk 1920 1080\n" + "".join(f"await {name(n)}\n" for n in range(1, count + 1))
-        for moment in (10, 20):
-            yield f"sleep 10\n{visits(others)}key down {FIRST_KEY} 1\nkey up 1\n"
+    home = f"key down {FIRST_KEY} 1\nkey up 1\n"
+    spread = "".join((f"sleep {pause}\n" if pause else "") + visits([n]) for n in others)
 
     def trace():
         yield from join_all(count)
         yield "turn 0\n" + "".join(f"room {n} 0\n" for n in others)
-        for moment in (1, 11):
-            yield f"turn {moment}\ngot {count} {grab(0, 0 if moment == 1 else count)}{grab(1, 0 if moment == 1 else count)}\n"
+        start = 1
+        for sequence in (0, count):
+            yield f"turn {start}\ngot {count} {grab(0, sequence)}{grab(1, sequence)}\n"
             for clip in (0, 1):
-                sequence = 0 if moment == 1 else count
                 yield f"got {count} {whole(clip, sequence, data)}\n"
-            yield reads.format(moment)
-            yield f"turn {moment + 9}\n"
+            yield reads.format(start)
+            last = start + 9 + pause * len(others)
+            yield "".join(f"turn {at}\n" for at in range(start + 9, last + 1))
+            start = last + 1
 
+    script = "primary desk 1920 1080\n" + "".join(f"await {name(n)}\n" for n in range(1, count + 1))
     keys = f"\tkeystroke(\\u{FIRST_KEY:04X}) = switchToScreen(desk)\n"
-    return clients(count, FORGETFUL + keys), twice(), trace()
+    return clients(count, FORGETFUL + keys), script + f"sleep 10\n{spread}{home}" * 2, trace()
 
 
 def main():
@@ -171,8 +171,9 @@ def main():
     turns = TURNS // 50
     run = replayed(*crowd(turns))
     show(f"{MOST_SCREENS - 1} clients", turns * (MOST_SCREENS - 1), "messages", run)
-    run = replayed(*full_queues(), runs=1)
-    show(f"{MOST_SCREENS - 2} queues of nearly 16 MiB", MOST_SCREENS - 2, "queues", run)
+    for pause, how in ((0, "at one moment"), (1, "one a millisecond")):
+        run = replayed(*full_queues(pause), runs=1)
+        show(f"{MOST_SCREENS - 2} queues of nearly 16 MiB, {how}", MOST_SCREENS - 2, "queues", run)
     return 0
 
 

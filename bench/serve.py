@@ -184,7 +184,8 @@ def stuck():
     others = range(1, living)
     keys = f"\tkeystroke(\\u{FIRST_KEY:04X}) = switchToScreen(desk)\n"
     again = f"key down {FIRST_KEY} 1\nkey up 1\n"
-    script = awaits(count) + "".join(f"sleep 5000\n{visits(others)}{visits([living])}{again}" for _ in range(2)) + "sleep 60000\n"
+    spread = "".join(f"sleep 1\n{visits([n])}" for n in others)
+    script = awaits(count) + f"sleep 5000\n{spread}{visits([living])}{again}" * 2 + "sleep 60000\n"
     run = Run(clients(count, FORGETFUL + keys), script)
     drain = subprocess.Popen(["cat"], stdin=run.server.stdout, stdout=subprocess.DEVNULL)
     peers = {}
