@@ -1,15 +1,10 @@
 -- A message is known by its code and its fields.
-use Rattle.std.proofs.Common.{◌≡◌, ℕ, zero, suc, ℤ, pos, List, [], refl, sym, ap, ◌∙◌}
-use Rattle.std.specs.Prelude.{slice_index_or}
-use Rattle.share_base.specs.declared.clip_id.ClipId.{ClipId}
+use Rattle.std.proofs.Common.{◌≡◌, refl, sym, ap, ◌∙◌}
 use Rattle.share_base.specs.declared.clip_id.ClipId.TheVariants as clips
-use Rattle.message_codec.specs.declared.clip_mark.ClipMark.{ClipMark}
 use Rattle.message_codec.specs.declared.clip_mark.ClipMark.TheVariants as marks
 use Rattle.message_codec.specs.declared.messages.Msg.{Msg}
 use Rattle.message_codec.specs.declared.messages.Msg.TheVariants as msg
 use Rattle.message_codec.specs.declared.coding.Code.{Code}
-use Rattle.message_codec.specs.declared.coding.Code.TheVariants as code
-use Rattle.message_codec.specs.Fields.{Field, Byte, Half, Signed, Word, Clip, Mark, Text, Words}
 use Rattle.message_codec.specs.Messages.{the_signed, the_number, the_list, clip_of, mark_of}
 use Rattle.message_codec.specs.Messages.{field_at, built}
 use Rattle.message_codec.specs.Table.{code_of, fields}

@@ -1,12 +1,17 @@
 use Rattle.std.proofs.Common.{◌≡◌, ◌<◌, ◌-◌, ◌∙◌, List, ℕ, [], Ok, Err, length, refl, sym, ap}
-use Rattle.std.proofs.Common.{subst, arith, rules}
+use Rattle.std.proofs.Common.{subst, Some, drop, arith, rules}
 use Rattle.std.proofs.lemmas.List.{nil_from_length}
 use Rattle.message_codec.specs.Fields.{Field}
 use Rattle.message_codec.specs.declared.reading.ReadError.{ReadError}
 use Rattle.message_codec.specs.Reading.{Fails, read_fields}
-use Rattle.message_codec.specs.Table.{SentBy, kinds, fields, has_list}
+use Rattle.message_codec.specs.Table.{SentBy, text, kinds, fields, has_list}
 use Rattle.message_codec.specs.Drafts.{draft_code, draft_fields}
+use Rattle.message_codec.specs.Codes.{code_at}
+use Rattle.message_codec.proofs.ReadFaults.{Reads}
 use Rattle.message_codec.proofs.CodeTexts.{code_at-begins, text_fits, no_code, no_sent}
+use Rattle.message_codec.specs.declared.messages.End.{End}
+use Rattle.message_codec.specs.declared.coding.Code.{Code}
+use Rattle.message_codec.specs.declared.reading.ReadError.TheVariants.{Short}
 use Rattle.message_codec.proofs.Bodies.{reads_at, read_spells}
 use Rattle.message_codec.specs.declared.faults.BadBody.TheVariants as bad
 use Rattle.message_codec.proofs.FaultForms.{left_within, rest_within, from_faults}
@@ -27,6 +32,16 @@ returns-then-not-is_sent_by-clause-bad c =
           begins,
     )
 
+-- a reading that failed where the bytes after the code end too early
+fails_short : (from : End) (body : List ℕ) (c : Code) (shown after : List ℕ) (error : ReadError)
+    (left : ℕ)
+    → code_at from body ≡ Some c → SentBy c from → shown ≡ text c → after ≡ drop (length shown) body
+    → Fails (has_list c) error (read_fields (kinds c) after) → error ≡ Short left
+    → Reads from body (Err left)
+fails_short from body c shown after error left found sent shown-is after-is failed is =
+    reads_at from body c shown after (Err left) found sent shown-is after-is
+    (subst (λ (e : ReadError). Fails (has_list c) e (read_fields (kinds c) after)) is failed)
+
 pub split_at-requires : goal.split_at-requires
 split_at-requires c =
     omega (
@@ -38,32 +53,17 @@ split_at-requires c =
 pub overflow_sub-at : goal.overflow_sub-at
 overflow_sub-at c =
     let left = c.in-Err-Short.left in
-    let fields-at = c.split_at.result.1.now in
-    let sent : SentBy c.in-Some.code c.args.from = search rules in
-    let read =
-    subst
-    (λ (e : ReadError).
-    Fails (has_list c.in-Some.code) e (read_fields (kinds c.in-Some.code) fields-at))
-    c.in-Err-Short.field-0-is c.in-Err-Short.ensures in
-    let reads =
-    reads_at c.args.from c.args.body.now c.in-Some.code c.text.result.now fields-at (Err left)
-    (sym c.in-Some.ensures) sent c.text.ensures c.split_at.ensures.back read in
-    left_within c.args.from c.args.body.now left (λ i. omega (arith, c.type_inv.body i)) reads
+    left_within c.args.from c.args.body.now left (λ i. omega (arith, c.type_inv.body i))
+    (fails_short _ _ c.in-Some.code _ _ _ left (sym c.in-Some.ensures) (search rules)
+    c.text.ensures c.split_at.ensures.back c.in-Err-Short.ensures c.in-Err-Short.field-0-is)
 
 pub returns-in-Err-Short-clause-bad : goal.returns-in-Err-Short-clause-bad
 returns-in-Err-Short-clause-bad c =
     let body = c.args.body.now in
     let left = c.in-Err-Short.left in
-    let fields-at = c.split_at.result.1.now in
-    let sent : SentBy c.in-Some.code c.args.from = search rules in
-    let read =
-    subst
-    (λ (e : ReadError).
-    Fails (has_list c.in-Some.code) e (read_fields (kinds c.in-Some.code) fields-at))
-    c.in-Err-Short.field-0-is c.in-Err-Short.ensures in
     let reads =
-    reads_at c.args.from body c.in-Some.code c.text.result.now fields-at (Err left)
-    (sym c.in-Some.ensures) sent c.text.ensures c.split_at.ensures.back read in
+    fails_short _ _ c.in-Some.code _ _ _ left (sym c.in-Some.ensures) (search rules)
+    c.text.ensures c.split_at.ensures.back c.in-Err-Short.ensures c.in-Err-Short.field-0-is in
     from_faults (bad.Short (length body - left)) c.args.from body
     (λ i. omega (arith, c.type_inv.body i)) (left, reads, refl)
 
