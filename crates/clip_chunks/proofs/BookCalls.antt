@@ -61,33 +61,27 @@ sent_follows old new clip was kept by given machine bytes screens was_is owner c
           (put_stands clip kept after old clips is s));
     }
 
-pub clipboard_entered : (old new : ClipBook) (clip : ClipId) (screen : ℕ) → clip ≡ Clipboard
-    → new.primary ≡ old.primary → new.limit ≡ old.limit → new.selection ≡ old.selection
-    → Changes old.clipboard new.clipboard (entered screen) → Follows old new (Entered clip screen)
-clipboard_entered old new clip screen is primary limit other changes =
-    subst (λ (clip : ClipId). Follows old new (Entered clip screen)) (sym is) (record {
+-- the one of that name followed a screen's entering, and the other stayed
+pub entered_follows : (old new : ClipBook) (kept : Kept) (clip at : ClipId) (screen : ℕ) → clip ≡ at
+    → new.primary ≡ old.primary → new.limit ≡ old.limit
+    → new.clipboard ≡ (with_kept at kept old).clipboard
+    → new.selection ≡ (with_kept at kept old).selection
+    → Changes (kept_of at old) kept (entered screen) → Follows old new (Entered clip screen)
+entered_follows old new kept clip at screen is primary limit clipboard selection changes =
+    subst (λ (c : ClipId). Follows old new (Entered c screen)) (sym is) (record {
       primary = primary;
       limit = limit;
       stands =
           λ clips s.
+          let c : Clip = clip_of at clips in
+          let after : Clips = with_clip at (entered screen c) clips in
+          let put =
+          put_stands at kept (entered screen c) old clips (changes c (clip_kept at old clips s)) s
+          in
           record {
-            clipboard = changes clips.clipboard s.clipboard;
-            selection = subst (λ (k : Kept). IsClip k clips.selection) (sym other) s.selection;
-          };
-    })
-
-pub selection_entered : (old new : ClipBook) (clip : ClipId) (screen : ℕ) → clip ≡ Selection
-    → new.primary ≡ old.primary → new.limit ≡ old.limit → new.clipboard ≡ old.clipboard
-    → Changes old.selection new.selection (entered screen) → Follows old new (Entered clip screen)
-selection_entered old new clip screen is primary limit other changes =
-    subst (λ (clip : ClipId). Follows old new (Entered clip screen)) (sym is) (record {
-      primary = primary;
-      limit = limit;
-      stands =
-          λ clips s.
-          record {
-            clipboard = subst (λ (k : Kept). IsClip k clips.clipboard) (sym other)
-                s.clipboard;
-            selection = changes clips.selection s.selection;
+            clipboard = subst (λ (k : Kept). IsClip k after.clipboard) (sym clipboard)
+                put.clipboard;
+            selection = subst (λ (k : Kept). IsClip k after.selection) (sym selection)
+                put.selection;
           };
     })
