@@ -19,7 +19,7 @@ const MOST_OPEN: usize = 64;
 impl ServerCore {
     /// Accepts the connection of a serial that is greater than those of all others, and of which
     /// nothing was heard. Where 64 are open already, it parts at once; else it is greeted.
-    pub fn accept(&mut self, serial: u64) -> Result<(), OutOfMemory>
+    pub(crate) fn accept(&mut self, serial: u64) -> Result<(), OutOfMemory>
         ensures { OnOk result ((b : Beside) (s : State) → IsBlank serial b → IsNew serial s
             → Stands b self.old s → Stands b self.new (acceptance.accept serial s)) }
     {

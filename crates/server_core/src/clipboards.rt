@@ -21,7 +21,7 @@ const CHUNK_LEN: usize = 32_768;
 
 impl ServerCore {
     /// Sends the active screen both clipboards, each where it is dirty for it.
-    pub fn refresh_both(&mut self) -> Result<(), OutOfMemory>
+    pub(crate) fn refresh_both(&mut self) -> Result<(), OutOfMemory>
         ensures { OnOk result (Leads self.old self.new clipboards.refresh_both) }
     {
         self.refresh(ClipId::Clipboard)?;
@@ -30,7 +30,7 @@ impl ServerCore {
     }
 
     /// Sends the active screen the known bytes of a clipboard, where it is dirty for it.
-    pub fn refresh(&mut self, clip: ClipId) -> Result<(), OutOfMemory>
+    pub(crate) fn refresh(&mut self, clip: ClipId) -> Result<(), OutOfMemory>
         ensures { OnOk result (Leads self.old self.new (clipboards.refresh clip)) }
     {
         let Some(bytes) = self.hand_out(clip)? else {
@@ -42,7 +42,7 @@ impl ServerCore {
 
     /// Returns the known bytes of a clipboard, where the active screen is dirty for it, and makes
     /// it clean.
-    pub fn hand_out(&mut self, clip: ClipId) -> Result<Option<Octets>, OutOfMemory>
+    pub(crate) fn hand_out(&mut self, clip: ClipId) -> Result<Option<Octets>, OutOfMemory>
         ensures { IfOk result (HandsOut clip self.old self.new) }
     {
         let screen = self.screen_of(self.active);
@@ -56,7 +56,12 @@ impl ServerCore {
     }
 
     /// Tells a target that is there the bytes of a clipboard.
-    pub fn give(&mut self, clip: ClipId, bytes: &[u8], target: Target) -> Result<(), OutOfMemory>
+    pub(crate) fn give(
+        &mut self,
+        clip: ClipId,
+        bytes: &[u8],
+        target: Target,
+    ) -> Result<(), OutOfMemory>
         ensures { OnOk result (LeadsWhere (λ s. IsThere s (meant target)) self.old self.new
             (clipboards.give clip bytes.now (meant target))) }
     {
@@ -74,7 +79,12 @@ impl ServerCore {
 
     /// Tells a connection that is there the bytes of a clipboard: a start that says how many there
     /// are, the bytes in chunks, and an end.
-    pub fn send_clip(&mut self, serial: u64, clip: ClipId, bytes: &[u8]) -> Result<(), OutOfMemory>
+    pub(crate) fn send_clip(
+        &mut self,
+        serial: u64,
+        clip: ClipId,
+        bytes: &[u8],
+    ) -> Result<(), OutOfMemory>
         ensures { OnOk result (LeadsWhere (λ s. IsThere s (Client serial)) self.old self.new
             (clipboards.give clip bytes.now (Client serial))) }
     {
@@ -88,7 +98,7 @@ impl ServerCore {
 
     /// Tells a connection that is there the bytes of a clipboard in chunks of 32,768, of which the
     /// last may be shorter.
-    pub fn send_chunks(
+    pub(crate) fn send_chunks(
         &mut self,
         serial: u64,
         clip: ClipId,
@@ -104,7 +114,7 @@ impl ServerCore {
     }
 
     /// Tells a connection that is there one part of a clipboard, with sequence 0.
-    pub fn send_part(
+    pub(crate) fn send_part(
         &mut self,
         serial: u64,
         clip: ClipId,

@@ -13,7 +13,7 @@ use share_base::OutOfMemory;
 impl ServerCore {
     /// Removes an open connection, and logs how many bytes it took and how many were ever queued
     /// for it. Where it is the active one, no further step but a closing is defined.
-    pub fn close(&mut self, serial: u64) -> Result<(), OutOfMemory>
+    pub(crate) fn close(&mut self, serial: u64) -> Result<(), OutOfMemory>
         ensures departs { OnOk result ((front : List ℕ) (s : State) → IsOpen s serial
             → Departs front self.old s → Departs front self.new (steps.close serial s)) }
         ensures serves { OnOk result ((front : List ℕ) (s : State) → IsOpen s serial

@@ -18,7 +18,7 @@ use share_base::OutOfMemory;
 impl ServerCore {
     /// Parts a connection for that cause, and then those that became too slow by it. One that is
     /// parting already only loses the bytes that it didn't take.
-    pub fn breaks(&mut self, cause: PartCause, serial: u64) -> Result<(), OutOfMemory>
+    pub(crate) fn breaks(&mut self, cause: PartCause, serial: u64) -> Result<(), OutOfMemory>
         ensures { OnOk result (Leads self.old self.new (steps.breaks cause serial)) }
     {
         self.part_or_drop(cause, serial)?;
@@ -28,7 +28,7 @@ impl ServerCore {
 
     /// Parts a connection for that cause; one that is parting already loses the bytes that it
     /// didn't take.
-    pub fn part_or_drop(&mut self, cause: PartCause, serial: u64) -> Result<(), OutOfMemory>
+    pub(crate) fn part_or_drop(&mut self, cause: PartCause, serial: u64) -> Result<(), OutOfMemory>
         ensures { OnOk result (Leads self.old self.new (λ s. choose (lives s serial)
             (partings.part cause serial) (change serial steps.drops) s)) }
     {
@@ -41,7 +41,7 @@ impl ServerCore {
     }
 
     /// Parts a connection of which a bad frame came, where it isn't parting by then.
-    pub fn judge(&mut self, serial: u64, bad: Option<BadFrame>) -> Result<(), OutOfMemory>
+    pub(crate) fn judge(&mut self, serial: u64, bad: Option<BadFrame>) -> Result<(), OutOfMemory>
         ensures { OnOk result ((box : Inbox) → bad_in box ≡ bad
             → Leads self.old self.new (steps.judge serial box)) }
     {

@@ -16,7 +16,7 @@ use share_base::{ClipId, OutOfMemory, ScreenNo};
 impl ServerCore {
     /// Hears a message of the connection of that serial, as its phase has it. Connections of which
     /// a frame was left out part then.
-    pub fn hear(&mut self, serial: u64, message: &Msg) -> Result<(), OutOfMemory>
+    pub(crate) fn hear(&mut self, serial: u64, message: &Msg) -> Result<(), OutOfMemory>
         ensures { OnOk result (Leads self.old self.new (hearing.hear serial message.now)) }
     {
         self.hear_in(serial, message)?;

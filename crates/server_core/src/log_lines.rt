@@ -13,7 +13,7 @@ use share_base::{ClipId, OutOfMemory};
 impl ServerCore {
     /// Logs that a connection was accepted. On `OutOfMemory` the log is
     /// unchanged.
-    pub fn log_open(&mut self, serial: u64) -> Result<(), OutOfMemory>
+    pub(crate) fn log_open(&mut self, serial: u64) -> Result<(), OutOfMemory>
         ensures { OnOk result (Leads self.old self.new (logs (Open serial ∷ []))) }
     {
         self.log.opened(serial)?;
@@ -22,7 +22,7 @@ impl ServerCore {
 
     /// Logs that a connection parted, and why. On `OutOfMemory` the log is
     /// unchanged.
-    pub fn log_part(&mut self, serial: u64, cause: PartCause) -> Result<(), OutOfMemory>
+    pub(crate) fn log_part(&mut self, serial: u64, cause: PartCause) -> Result<(), OutOfMemory>
         ensures { OnOk result (Leads self.old self.new (logs (Part serial cause ∷ []))) }
     {
         self.log.parted(serial, cause)?;
@@ -31,7 +31,7 @@ impl ServerCore {
 
     /// Logs the contents that the primary is given for a clipboard. On `OutOfMemory` the log is
     /// unchanged.
-    pub fn log_clip(&mut self, clip: ClipId, bytes: &[u8]) -> Result<(), OutOfMemory>
+    pub(crate) fn log_clip(&mut self, clip: ClipId, bytes: &[u8]) -> Result<(), OutOfMemory>
         ensures { OnOk result
             (Leads self.old self.new (logs (Local (line.Clip clip bytes.now) ∷ []))) }
     {

@@ -16,7 +16,7 @@ use share_base::{OutOfMemory, ScreenNo};
 
 impl ServerCore {
     /// Queues the message that the cause has for a connection that lives.
-    pub fn say_farewell(&mut self, cause: PartCause, serial: u64) -> Result<(), OutOfMemory>
+    pub(crate) fn say_farewell(&mut self, cause: PartCause, serial: u64) -> Result<(), OutOfMemory>
         ensures { OnOk result (LeadsWhere (λ s. screens.lives s serial ≡ true) self.old self.new
             (partings.say_farewell cause serial)) }
     {
@@ -28,7 +28,7 @@ impl ServerCore {
     }
 
     /// Parts a connection that lives, and logs it.
-    pub fn mark(&mut self, cause: PartCause, serial: u64) -> Result<(), OutOfMemory>
+    pub(crate) fn mark(&mut self, cause: PartCause, serial: u64) -> Result<(), OutOfMemory>
         ensures { OnOk result (LeadsWhere (λ s. screens.lives s serial ≡ true) self.old self.new
             (partings.marked cause serial)) }
     {
@@ -39,7 +39,7 @@ impl ServerCore {
     }
 
     /// Gives the primary the clipboards of a screen that left.
-    pub fn inherit_clips(&mut self, screen: ScreenNo)
+    pub(crate) fn inherit_clips(&mut self, screen: ScreenNo)
         ensures { Leads self.old self.new (clipboards.clips_left screen.0) }
     {
         self.clips.left(screen);
@@ -47,7 +47,7 @@ impl ServerCore {
 
     /// Parts a connection that isn't parting yet, for that cause: its farewell, if any, is queued,
     /// and what it was joined as is lost.
-    pub fn part(&mut self, cause: PartCause, serial: u64) -> Result<(), OutOfMemory>
+    pub(crate) fn part(&mut self, cause: PartCause, serial: u64) -> Result<(), OutOfMemory>
         ensures { OnOk result (LeadsWhere (λ s. screens.lives s serial ≡ true) self.old self.new
             (partings.part cause serial)) }
     {
@@ -63,7 +63,7 @@ impl ServerCore {
 
     /// Takes a screen from the connection of that serial: where it was active, the primary is, and
     /// the primary owns the screen's clipboards.
-    pub fn lose(&mut self, serial: u64, screen: ScreenNo) -> Result<(), OutOfMemory>
+    pub(crate) fn lose(&mut self, serial: u64, screen: ScreenNo) -> Result<(), OutOfMemory>
         ensures { OnOk result (Leads self.old self.new (partings.lose serial screen.0)) }
     {
         self.leave_lost(serial)?;
@@ -72,7 +72,7 @@ impl ServerCore {
     }
 
     /// Falls back to the primary where the connection of that serial is active.
-    pub fn leave_lost(&mut self, serial: u64) -> Result<(), OutOfMemory>
+    pub(crate) fn leave_lost(&mut self, serial: u64) -> Result<(), OutOfMemory>
         ensures { OnOk result (Leads self.old self.new
             (λ s. when (same_target s.active (Client serial)) switching.fall_back s)) }
     {

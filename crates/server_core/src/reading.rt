@@ -18,7 +18,7 @@ impl ServerCore {
     /// Hears the next piece of the bytes of a connection, which are fewer than 2^63 in all. Of a
     /// connection that is parting nothing is read. After `OutOfMemory` some of the piece may be
     /// heard.
-    pub fn got(&mut self, serial: u64, piece: &[u8]) -> Result<(), OutOfMemory>
+    pub(crate) fn got(&mut self, serial: u64, piece: &[u8]) -> Result<(), OutOfMemory>
         requires { given_by self.old serial + length piece.now < 2 ^ 63 }
         ensures serves { OnOk result ((front : List ℕ) (s : State) → Serves front self.old s
             → Serves front self.new (steps.got serial piece.now s)) }
@@ -40,7 +40,7 @@ impl ServerCore {
     }
 
     /// Hears messages of a connection one by one.
-    pub fn hear_all(&mut self, serial: u64, messages: &[Msg]) -> Result<(), OutOfMemory>
+    pub(crate) fn hear_all(&mut self, serial: u64, messages: &[Msg]) -> Result<(), OutOfMemory>
         ensures { OnOk result (Leads self.old self.new
             (for_each messages.now (hearing.hear serial))) }
     {

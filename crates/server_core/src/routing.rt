@@ -16,7 +16,7 @@ use share_base::OutOfMemory;
 impl ServerCore {
     /// Tells a target that is there a message, and logs what the primary prints or the frame that
     /// is queued.
-    pub fn route(&mut self, target: Target, message: &Msg) -> Result<(), OutOfMemory>
+    pub(crate) fn route(&mut self, target: Target, message: &Msg) -> Result<(), OutOfMemory>
         requires { length (body_of message.now) ≤ BODY_LIMIT }
         ensures { OnOk result
             ((origin : Origin) → LeadsWhere (λ s. IsThere s (meant target)) self.old self.new

@@ -16,7 +16,7 @@ use share_base::{ScreenNo, Shape};
 
 impl ServerCore {
     /// Tells whether the connection of that serial is there and isn't parting.
-    pub fn lives(&self, serial: u64) -> bool
+    pub(crate) fn lives(&self, serial: u64) -> bool
         ensures { Reads self.now result (λ s. screens.lives s serial) }
     {
         match self.table.get(serial) {
@@ -26,7 +26,7 @@ impl ServerCore {
     }
 
     /// Returns the number of the primary screen, which is below 64.
-    pub fn primary_screen(&self) -> ScreenNo
+    pub(crate) fn primary_screen(&self) -> ScreenNo
         ensures screen { Reads self.now result.0 (λ s. s.primary) }
         ensures bound { result.0 < 64 }
     {
@@ -34,7 +34,7 @@ impl ServerCore {
     }
 
     /// Returns the screen as which the connection of that serial is joined, a number below 64.
-    pub fn screen_joined(&self, serial: u64) -> Option<ScreenNo>
+    pub(crate) fn screen_joined(&self, serial: u64) -> Option<ScreenNo>
         ensures screen { Reads self.now (option_map (λ n. n.0) result)
             (λ s. partings.screen_joined s serial) }
         ensures bound { IfSome result (λ n. n.0 < 64) }
@@ -46,7 +46,7 @@ impl ServerCore {
     }
 
     /// Returns the screen of a connection, a number below 64; if it isn't joined, the primary.
-    pub fn client_screen(&self, serial: u64) -> ScreenNo
+    pub(crate) fn client_screen(&self, serial: u64) -> ScreenNo
         ensures screen { Reads self.now result.0 (λ s. screens.screen_of s (Client serial)) }
         ensures bound { result.0 < 64 }
     {
@@ -58,7 +58,7 @@ impl ServerCore {
 
     /// Returns the screen of a target, a number below 64; of a connection that isn't joined, the
     /// primary.
-    pub fn screen_of(&self, target: Target) -> ScreenNo
+    pub(crate) fn screen_of(&self, target: Target) -> ScreenNo
         ensures screen { Reads self.now result.0 (λ s. screens.screen_of s (meant target)) }
         ensures bound { result.0 < 64 }
     {
@@ -69,7 +69,7 @@ impl ServerCore {
     }
 
     /// Returns the shape of the screen as which the connection of that serial is joined.
-    pub fn shape_joined(&self, serial: u64) -> Option<Shape>
+    pub(crate) fn shape_joined(&self, serial: u64) -> Option<Shape>
         ensures shape { Reads self.now result (λ s. shape_joined s serial) }
         ensures screen { IfSome result IsScreenShape }
     {
@@ -80,7 +80,7 @@ impl ServerCore {
     }
 
     /// Returns the shape of a connection's screen; if it isn't joined, that of the primary.
-    pub fn client_shape(&self, serial: u64) -> Shape
+    pub(crate) fn client_shape(&self, serial: u64) -> Shape
         ensures shape { Reads self.now result (λ s. screens.shape_of s (Client serial)) }
         ensures screen { IsScreenShape result }
     {
@@ -92,7 +92,7 @@ impl ServerCore {
 
     /// Returns the shape of a target's screen; of a connection that isn't joined, that of the
     /// primary.
-    pub fn shape_of(&self, target: Target) -> Shape
+    pub(crate) fn shape_of(&self, target: Target) -> Shape
         ensures shape { Reads self.now result (λ s. screens.shape_of s (meant target)) }
         ensures screen { IsScreenShape result }
     {
@@ -103,7 +103,7 @@ impl ServerCore {
     }
 
     /// Returns who has a joined screen.
-    pub fn target_of(&self, screen: ScreenNo) -> Option<Target>
+    pub(crate) fn target_of(&self, screen: ScreenNo) -> Option<Target>
         ensures { Reads self.now (option_map meant result) (λ s. screens.target_of s screen.0) }
     {
         let primary = self.primary_screen();
@@ -117,7 +117,7 @@ impl ServerCore {
     }
 
     /// Tells whether the connection of that serial is the active one.
-    pub fn is_active(&self, serial: u64) -> bool
+    pub(crate) fn is_active(&self, serial: u64) -> bool
         ensures { Reads self.now result (λ s. same_target s.active (Client serial)) }
     {
         match self.active {

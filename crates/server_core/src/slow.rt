@@ -11,7 +11,7 @@ use share_base::OutOfMemory;
 
 impl ServerCore {
     /// Parts the connections of which a frame was left out, one after another, until none is left.
-    pub fn part_slow(&mut self) -> Result<(), OutOfMemory>
+    pub(crate) fn part_slow(&mut self) -> Result<(), OutOfMemory>
         ensures { OnOk result (Leads self.old self.new slow.part_slow) }
     {
         let most = self.table.as_slice().len();
@@ -27,7 +27,7 @@ impl ServerCore {
 
     /// Parts the connection of least serial of which a frame was left out, and tells whether there
     /// was one.
-    pub fn part_first_slow(&mut self) -> Result<bool, OutOfMemory>
+    pub(crate) fn part_first_slow(&mut self) -> Result<bool, OutOfMemory>
         ensures leads { OnOk result (Leads self.old self.new slow.part_first_slow) }
         ensures none { IfOk result (λ more. more ≡ false → NoneIsSlow self.old) }
     {

@@ -25,7 +25,7 @@ pub(crate) fn coordinate(n: i32) -> i16
 
 impl ServerCore {
     /// Tells the active screen that the cursor leaves it.
-    pub fn tell_leaving(&mut self) -> Result<(), OutOfMemory>
+    pub(crate) fn tell_leaving(&mut self) -> Result<(), OutOfMemory>
         ensures { OnOk result (Leads self.old self.new switching.tell_leaving) }
     {
         self.route(self.active, &Msg::Leave)?;
@@ -34,7 +34,7 @@ impl ServerCore {
 
     /// Makes a target that is there the active one, with the cursor at that point of its screen,
     /// and tells it so.
-    pub fn tell_entering(&mut self, to: Target, point: Point) -> Result<(), OutOfMemory>
+    pub(crate) fn tell_entering(&mut self, to: Target, point: Point) -> Result<(), OutOfMemory>
         requires { IsPixel point }
         ensures { OnOk result ((o : Origin) → LeadsWhere (λ s. IsThere s (meant to))
             self.old self.new (switching.tell_entering o (meant to) (point_of point))) }
@@ -52,7 +52,7 @@ impl ServerCore {
 
     /// Makes a target that is there the active one, with the cursor at that point of its screen,
     /// and resets the gate.
-    pub fn move_to(&mut self, to: Target, point: Point)
+    pub(crate) fn move_to(&mut self, to: Target, point: Point)
         requires { IsPixel point }
         ensures { LeadsWhere (λ s. IsThere s (meant to)) self.old self.new
             (switching.at_screen (meant to) (point_of point)) }
@@ -65,7 +65,7 @@ impl ServerCore {
 
     /// Makes a target that is there the active one, with the cursor at that point of its screen. It
     /// is told so, and then sent the clipboards for which it is dirty.
-    pub fn enter(&mut self, to: Target, point: Point) -> Result<(), OutOfMemory>
+    pub(crate) fn enter(&mut self, to: Target, point: Point) -> Result<(), OutOfMemory>
         requires { IsPixel point }
         ensures { OnOk result ((o : Origin) → LeadsWhere (λ s. IsThere s (meant to))
             self.old self.new (switching.enter o (meant to) (point_of point))) }
@@ -77,7 +77,7 @@ impl ServerCore {
 
     /// Leaves the active screen for another target that is there, with the cursor at that point of
     /// its screen.
-    pub fn switch(&mut self, to: Target, point: Point) -> Result<(), OutOfMemory>
+    pub(crate) fn switch(&mut self, to: Target, point: Point) -> Result<(), OutOfMemory>
         requires { IsPixel point }
         ensures { OnOk result ((o : Origin) → LeadsWhere (λ s. IsThere s (meant to))
             self.old self.new (switching.switch o (meant to) (point_of point))) }
@@ -89,7 +89,7 @@ impl ServerCore {
 
     /// Makes the primary active, with the cursor at its middle. The screen that was active is lost
     /// and told nothing.
-    pub fn fall_back(&mut self) -> Result<(), OutOfMemory>
+    pub(crate) fn fall_back(&mut self) -> Result<(), OutOfMemory>
         ensures { OnOk result (Leads self.old self.new switching.fall_back) }
     {
         let primary = self.primary_shape.shape();

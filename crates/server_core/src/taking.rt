@@ -23,7 +23,7 @@ impl ServerCore {
 
     /// Notes that a connection took the first `count` of those bytes. Fewer than 2^63 are taken in
     /// all.
-    pub fn takes(&mut self, serial: u64, count: usize)
+    pub(crate) fn takes(&mut self, serial: u64, count: usize)
         requires there { count ≤ length (queued_in self.old serial) }
         requires fits { taken_in self.old serial + count < 2 ^ 63 }
         ensures leads { Leads self.old self.new (change serial (steps.takes count)) }
