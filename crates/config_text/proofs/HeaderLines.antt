@@ -10,7 +10,7 @@ use Rattle.config_text.specs.Drafts.{Draft}
 use Rattle.config_text.specs.Judging.{fault_at}
 use Rattle.config_text.specs.Lines.{judged, judged_as, placed, refused}
 use Rattle.config_text.specs.Sections.{alias_line, in_section, inside, is_header, link_line}
-use Rattle.config_text.specs.Sections.{screen_line, under, words_in}
+use Rattle.config_text.specs.Sections.{screen_line, words_in}
 use Rattle.screen_config.specs.Sound.{is_end}
 
 below_none : (s : Section) (d : Draft) (xs : List ℕ) → s ≢ section.Options → d.header ≡ None

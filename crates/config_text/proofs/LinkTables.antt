@@ -11,7 +11,7 @@ use Rattle.share_base.specs.declared.shape.Side.{Side}
 use Rattle.share_base.specs.declared.shape.Side.TheVariants.{Left, Right, Up, Down}
 use Rattle.screen_links.specs.declared.link.Link.{Link}
 use Rattle.screen_config.specs.Values.{begins_at}
-use Rattle.screen_config.proofs.LinkValues.{Begins, begins, begins_there}
+use Rattle.screen_config.proofs.LinkValues.{begins, begins_there}
 use Rattle.config_text.specs.LinkTables.{side_index, cell_of, IsTableOf}
 
 abbrev Cells : Type 0

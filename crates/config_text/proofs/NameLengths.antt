@@ -1,5 +1,5 @@
 -- Names of screens are short.
-use Rattle.std.proofs.Common.{◌≡◌, ℕ, ◌≤◌, true, ◌==◌, List, length, Option, nat_le, ap, inl, inr}
+use Rattle.std.proofs.Common.{ℕ, ◌≤◌, length, Option, ap, inl, inr}
 use Rattle.std.proofs.Common.{arith}
 use Rattle.std.proofs.lemmas.Bool.{cases_lt}
 use Rattle.std.proofs.lemmas.Option.{slice_get_past}

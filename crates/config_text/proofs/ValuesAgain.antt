@@ -1,6 +1,6 @@
 -- A configuration whose aliases and links stand by screen and side has the value of the one in
 -- which they stood as in the text.
-use Rattle.std.proofs.Common.{◌≡◌, ℕ, zero, suc, ◌+◌, ◌<◌, ◌≤◌, ◌≢◌, true, false, ◌==◌, ◌&&◌, List}
+use Rattle.std.proofs.Common.{◌≡◌, ℕ, zero, suc, ◌+◌, ◌<◌, ◌≤◌, ◌≢◌, true, false, ◌==◌, List}
 use Rattle.std.proofs.Common.{[], ◌++◌, length, map, None, refl, ap, sym, ◌∙◌, append-nil, arith}
 use Rattle.std.proofs.Common.{inl, inr}
 use Rattle.std.specs.Prelude.{filter}

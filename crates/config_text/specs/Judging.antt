@@ -5,7 +5,6 @@ use Rattle.std.specs.Prelude.{ℕ, Bool, true, false, not, ◌==◌, ◌&&◌, n
 use Rattle.std.specs.Prelude.{length, Result, Ok, Err, Option, Some, None, is_none}
 use Rattle.std.specs.List.{list_any}
 use Rattle.share_base.specs.declared.numbers.ScreenNo.{ScreenNo}
-use Rattle.share_base.specs.declared.shape.Side.{Side}
 use Rattle.share_base.specs.Shapes.{same_side}
 use Rattle.share_base.specs.Names.{is_name}
 use Rattle.text_lines.specs.Reading.{◌>>=◌, Text}

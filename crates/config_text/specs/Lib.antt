@@ -10,6 +10,7 @@ pub mod Kinds
 pub mod Lines
 pub mod LinkTables
 pub mod Normal
+pub mod Places
 pub mod RoundTrip
 pub mod Sections
 pub mod Shapes

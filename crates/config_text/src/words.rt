@@ -7,6 +7,7 @@ ghost use Rattle.config_text.specs.Answering.{Judges};
 ghost use Rattle.config_text.specs.Judging as spec;
 ghost use Rattle.option_table.specs.Scopes.{stands_below_screen, stands_for_all};
 ghost use Rattle.config_text.specs.Judging.{new_setting};
+ghost use Rattle.config_text.specs.Places.{stands_at};
 ghost use Rattle.config_text.specs.Views.{setting_text};
 
 use crate::faults::{ConfigKind, Fault, LineFault};
@@ -58,77 +59,63 @@ pub(crate) fn formed<T: Drop>(read: Result<T, usize>) -> Result<T, LineFault>
     }
 }
 
-fn is_below_screen(scope: Scope) -> bool
-    ensures { result ≡ stands_below_screen scope }
+// Where a line with an option stands.
+#[derive(Clone, Copy)]
+enum Place {
+    BelowScreen,
+    ForAll,
+}
+
+fn takes(place: Place, scope: Scope) -> bool
+    ensures { result ≡ stands_at place scope }
 {
-    match scope {
-        Scope::Screen => true,
-        Scope::Global => false,
-        Scope::Both => true,
+    match place {
+        Place::BelowScreen => !matches!(scope, Scope::Global),
+        Place::ForAll => !matches!(scope, Scope::Screen),
     }
 }
 
-fn is_for_all(scope: Scope) -> bool
-    ensures { result ≡ stands_for_all scope }
+// The option of a line at that place.
+#[tactic(auto, unfolding(crate::specs::Judging::new_setting))]
+fn placed_setting(place: Place, text: SettingText<'_>) -> Result<Setting, LineFault>
+    ensures judged { Judges (λ x. x) result (new_setting (stands_at place) (setting_text text.entry)) }
+    ensures stands { IfOk result (λ s. stands_at place (row_of s.option).scope ≡ true) }
+    ensures suits { IfOk result (λ s. suits (row_of s.option).form s.value ≡ true) }
 {
-    match scope {
-        Scope::Screen => false,
-        Scope::Global => true,
-        Scope::Both => true,
-    }
+    let option = found(
+        OptionName::named(text.key.text),
+        ConfigKind::UnknownOption,
+        text.key.left,
+    )?;
+    let row = option.row();
+    unless(
+        takes(place, row.scope),
+        ConfigKind::UnknownOption,
+        text.key.left,
+    )?;
+    let value = found(
+        row.form.value(text.value.text),
+        ConfigKind::BadValue,
+        text.value.left,
+    )?;
+    Ok(Setting { option, value })
 }
 
 /// The option of a line below a screen's header.
-#[tactic(auto, unfolding(crate::specs::Judging::new_setting))]
 pub(crate) fn own_setting(text: SettingText<'_>) -> Result<Setting, LineFault>
     ensures judged { Judges (λ x. x) result
         (new_setting stands_below_screen (setting_text text.entry)) }
     ensures stands { IfOk result (λ s. stands_below_screen (row_of s.option).scope ≡ true) }
     ensures suits { IfOk result (λ s. suits (row_of s.option).form s.value ≡ true) }
 {
-    let option = found(
-        OptionName::named(text.key.text),
-        ConfigKind::UnknownOption,
-        text.key.left,
-    )?;
-    let row = option.row();
-    unless(
-        is_below_screen(row.scope),
-        ConfigKind::UnknownOption,
-        text.key.left,
-    )?;
-    let Some(value) = row.form.value(text.value.text) else {
-        return Err(LineFault::Refused(Fault {
-            kind: ConfigKind::BadValue,
-            left: text.value.left,
-        }));
-    };
-    Ok(Setting { option, value })
+    placed_setting(Place::BelowScreen, text)
 }
 
 /// The option of a line among those for all screens.
-#[tactic(auto, unfolding(crate::specs::Judging::new_setting))]
 pub(crate) fn global_setting(text: SettingText<'_>) -> Result<Setting, LineFault>
     ensures judged { Judges (λ x. x) result (new_setting stands_for_all (setting_text text.entry)) }
     ensures stands { IfOk result (λ s. stands_for_all (row_of s.option).scope ≡ true) }
     ensures suits { IfOk result (λ s. suits (row_of s.option).form s.value ≡ true) }
 {
-    let option = found(
-        OptionName::named(text.key.text),
-        ConfigKind::UnknownOption,
-        text.key.left,
-    )?;
-    let row = option.row();
-    unless(
-        is_for_all(row.scope),
-        ConfigKind::UnknownOption,
-        text.key.left,
-    )?;
-    let Some(value) = row.form.value(text.value.text) else {
-        return Err(LineFault::Refused(Fault {
-            kind: ConfigKind::BadValue,
-            left: text.value.left,
-        }));
-    };
-    Ok(Setting { option, value })
+    placed_setting(Place::ForAll, text)
 }

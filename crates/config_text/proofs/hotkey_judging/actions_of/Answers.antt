@@ -1,10 +1,8 @@
-use Rattle.std.proofs.Common.{Vec, Global, List, sym, ◌∙◌, ap, subst}
+use Rattle.std.proofs.Common.{Vec, Global, List, sym, ◌∙◌, ap}
 use Rattle.std.proofs.lemmas.Result.{err_from_is_err_and}
 use Rattle.hotkey_rules.specs.declared.action.Action.{Action}
 use Rattle.hotkey_text.specs.Views.{form_text, list_text}
-use Rattle.screen_config.specs.Configurations.{Configuration}
 use Rattle.config_text.specs.Hotkeys.{action_of, actions_of}
-use Rattle.screen_config.specs.Sound.{IsSound}
 use Rattle.config_text.proofs.ActionRuns.{before, one_more, one_refused, none_left, none_read}
 use Rattle.config_text.proofs.ActionRuns.{actions_spelled, has_screens, fault_kept}
 use Rattle.config_text.proofs.hotkey_judging.actions_of.Goals as goal

@@ -1,4 +1,4 @@
-use Rattle.std.proofs.Common.{◌∙◌, add-one, sym}
+use Rattle.std.proofs.Common.{◌∙◌, add-one}
 use Rattle.std.proofs.Math.Seq.{take-suc}
 use Rattle.share_base.specs.declared.shape.Side.TheVariants as side
 use Rattle.screen_links.specs.declared.link.Link.{Link}
