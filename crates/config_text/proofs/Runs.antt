@@ -197,7 +197,7 @@ unfolding all_lines
 one_read n d l e h = ap (λ (r : Result Draft ConfigRefusal). r >>= λ m. Ok m) h
 
 -- one line of clean words behind tabs
-is_line : (tabs xs : List ℕ) → AreTabs tabs → IsClean xs → IsLine (tabs ++ xs)
+pub is_line : (tabs xs : List ℕ) → AreTabs tabs → IsClean xs → IsLine (tabs ++ xs)
 is_line tabs xs t c =
     let plain = plain_line tabs xs t c in
     let last = length (tabs ++ xs) - 1 in

@@ -10,16 +10,15 @@ use Rattle.std.proofs.lemmas.Bool.Decides.{nat_tests}
 use Rattle.std.proofs.lemmas.Option.{slice_get-get_or}
 use Rattle.std.proofs.lemmas.List.Splits.{slice_split_at, slice_split_none}
 use Rattle.share_base.proofs.Ends.{last_is}
-use Rattle.share_base.proofs.ListTests.{all_weaker, all_at}
+use Rattle.share_base.proofs.ListTests.{all_at}
 use Rattle.text_lines.specs.Bytes.{is_blank}
 use Rattle.text_lines.specs.Lines.{Words, line_text}
 use Rattle.text_lines.specs.Reading.{is_empty}
 use Rattle.text_lines.specs.Words.{words_of}
 use Rattle.text_lines.proofs.CleanWords.{is_plain, is_solid, IsClean, clean_solid, clean_around}
 use Rattle.text_lines.proofs.SpelledLines.{content_again}
-use Rattle.text_lines.proofs.SpelledWords.{filled_some}
-use Rattle.config_text.proofs.CleanLines.{differs}
-use Rattle.config_text.proofs.Runs.{IsLine}
+use Rattle.text_lines.proofs.WordLists.{some_kept}
+use Rattle.config_text.proofs.Runs.{IsLine, is_line}
 use Rattle.script_screen.specs.declared.kinds.TextKind.{TextKind}
 use Rattle.script_screen.specs.NumberedLines.{at_line, numbered}
 
@@ -62,20 +61,16 @@ no_blank w h =
     not-true (is_blank (get_or w k d)) (all_at is_solid w k (get_or w k d) h
     (slice_get-get_or w k d lt))
 
-kept : (w : List ℕ) (ws : List (List ℕ)) → 0 < length w
-    → filter (λ w. not (is_empty w)) (w ∷ ws) ≡ w ∷ filter (λ w. not (is_empty w)) ws
-kept w ws h = rw (filled_some w h) refl
-
 pub words_joined : (w : List ℕ) (ws : List (List ℕ)) → AreWhole (w ∷ ws)
     → words_of (joined (w ∷ ws)) ≡ w ∷ ws
 unfolding words_of
 words_joined w [] h =
     ap (filter (λ w. not (is_empty w))) (slice_split_none is_blank w (no_blank w h.0.solid))
-    ∙ kept w [] h.0.some
+    ∙ some_kept w [] h.0.some
 words_joined w (v ∷ vs) h =
     ap (filter (λ w. not (is_empty w)))
     (slice_split_at is_blank w 32 (joined (v ∷ vs)) (no_blank w h.0.solid) refl)
-    ∙ kept w (slice_split is_blank (joined (v ∷ vs))) h.0.some
+    ∙ some_kept w (slice_split is_blank (joined (v ∷ vs))) h.0.some
     ∙ ap (λ (ws : List (List ℕ)). w ∷ ws) (words_joined v vs h.1)
 
 -- ---- the line
@@ -102,19 +97,8 @@ line_clean xs c =
       place = refl;
     })
 
--- it holds no LF and no CR
-line_whole : (xs : List ℕ) → IsClean xs → IsLine xs
-line_whole xs c = (
-  all_weaker is_plain (λ b. not (b == 10)) (λ b h. rw (differs is_plain b 10 h refl) refl) xs
-      c.plain,
-  differs is_plain (get_or xs (length xs - 1) 0) 13
-      (all_at is_plain xs (length xs - 1) (get_or xs (length xs - 1) 0) c.plain
-      (slice_get-get_or xs (length xs - 1) 0 (omega (arith, c.some))))
-      refl,
-)
-
 pub line_joined : (w : List ℕ) (ws : List (List ℕ)) → AreWhole (w ∷ ws) → IsLine (joined (w ∷ ws))
-line_joined w ws h = line_whole (joined (w ∷ ws)) (clean_joined w ws h)
+line_joined w ws h = is_line [] (joined (w ∷ ws)) refl (clean_joined w ws h)
 
 few : (n : ℕ) → n ≤ 1000000 → nat_lt 1000000 n ≡ false
 few n h = grind (arith, nat_tests)

@@ -44,7 +44,7 @@ pub solid_front : (xs : List ℕ) → is_tight xs ≡ true → 0 < length xs
 solid_front [] t h = absurd (omega arith)
 solid_front (b ∷ bs) t h = rw t (omega arith)
 
-some_kept : (w : List ℕ) (ws : List (List ℕ)) → 0 < length w
+pub some_kept : (w : List ℕ) (ws : List (List ℕ)) → 0 < length w
     → filter (λ w. not (is_empty w)) (w ∷ ws) ≡ w ∷ filter (λ w. not (is_empty w)) ws
 some_kept [] ws h = absurd (omega arith)
 some_kept (b ∷ bs) ws h = refl
