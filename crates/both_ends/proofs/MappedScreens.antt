@@ -1,5 +1,5 @@
 -- The keys and buttons of a client's lines are those of a screen that gets all messages that the client heard.
-use Rattle.std.specs.Prelude.{◌≡◌, refl, ℕ, Bool, true, false, List, [], ◌∷◌, ◌++◌, map, fold, length, drop, Option, Some, None, if◌then◌else◌}
+use Rattle.std.specs.Prelude.{◌≡◌, refl, ℕ, Bool, true, false, List, [], ◌∷◌, ◌++◌, map, fold, Option, Some, None, if◌then◌else◌}
 use Rattle.std.proofs.Common.{ap, sym, subst, ◌∙◌}
 use Rattle.std.proofs.lemmas.List.{append-nil}
 use Rattle.std.proofs.lemmas.List.Elements.{filter-append}
@@ -7,8 +7,6 @@ use Rattle.std.proofs.lemmas.List.Concat.{flat_map-append}
 use Rattle.std.proofs.lemmas.List.Sums.{fold-append}
 use Rattle.message_codec.specs.declared.messages.Msg.{Msg}
 use Rattle.message_codec.specs.declared.messages.Msg.TheVariants as msg
-use Rattle.message_codec.specs.Inboxes.{Inbox}
-use Rattle.message_reader.specs.declared.reader.BadFrame.{BadFrame}
 use Rattle.clip_chunks.specs.Parts.{Part, part}
 use Rattle.clip_chunks.specs.OpenRuns.{whole_of, whole_at}
 use Rattle.modifier_map.specs.Map.{identity, changed}
@@ -20,14 +18,12 @@ use Rattle.script_screen.specs.declared.client_script.ClientLine.{ClientLine}
 use Rattle.client_talk.specs.Options.{pairs}
 use Rattle.client_talk.specs.Talks.{Talk}
 use Rattle.client_talk.specs.Answers.{is_for_screen}
-use Rattle.client_core.specs.declared.client_end.ClientEnd.{ClientEnd}
 use Rattle.client_core.specs.declared.clipboards.TheConstants.{CLIP_LIMIT}
-use Rattle.client_core.specs.declared.stop.Stop.{Stop}
-use Rattle.client_core.specs.Ends.{stop_in}
 use Rattle.client_core.specs.Clipboards.{whole_line, part_lines}
 use Rattle.client_core.specs.Hearing.{Display, option_lines, set_all, heard, fresh, heard_all, display}
-use Rattle.client_core.specs.Clients.{Client, while_going, shown_of, listens, takes, hear, hear_all, fed, inbox_with, bad_in, fails, reads}
-use Rattle.client_core.specs.Happenings.{Happening, Got, Moment, Took, Ended, injecting, joining, lines, tells, step, run}
+use Rattle.client_core.specs.Clients.{Client, shown_of}
+use Rattle.client_core.specs.Happenings.{Happening, injecting, joining, lines, run}
+use Rattle.client_core.proofs.Listening.{IsKept, run-keeps}
 use Rattle.both_ends.specs.Inputs.{is_input, inputs, sets_option, calls_of, calls, mapped_screen}
 use Rattle.both_ends.proofs.InputLines.{same-applied}
 
@@ -109,59 +105,20 @@ mapped-more messages m =
     ap (screen identity) (flat_map-append calls_of messages (m ∷ []) ∙ ap (λ (t : List Call). calls messages ++ t) (append-nil (calls_of m)))
     ∙ from-append (record { lines = []; mods = identity }) (calls messages) (calls_of m)
 
-abbrev pub IsMapped : Client → Type 0
-IsMapped c = Like (display c.shown) (mapped_screen c.heard)
+abbrev IsMapped : List Msg → List Msg → Type 0
+IsMapped shown heard = Like (display shown) (mapped_screen heard)
 
-listens-mapped : (c : Client) (m : Msg) → IsMapped c → IsMapped (listens m c)
+listens-mapped : IsKept IsMapped
 listens-mapped c m h =
     let is : display (c.shown ++ shown_of c.talk m) ≡ heard_all (display c.shown) (shown_of c.talk m) = fold-append heard fresh c.shown (shown_of c.talk m) in
     subst (λ (d : Display). Like d (mapped_screen (c.heard ++ m ∷ []))) (sym is)
     (subst (Like (heard_all (display c.shown) (shown_of c.talk m))) (sym (mapped-more c.heard m)) (shown-like c.talk (display c.shown) (mapped_screen c.heard) m h))
 
-hear-mapped : (done : Option ClientEnd) (by : Option Stop) (c : Client) (m : Msg) → IsMapped c → IsMapped (while_going done (takes by m) c)
-hear-mapped (Some e) by c m h = h
-hear-mapped None (Some s) c m h = h
-hear-mapped None None c m h = listens-mapped c m h
-
-hear_all-mapped : (c : Client) (ms : List Msg) → IsMapped c → IsMapped (hear_all c ms)
-hear_all-mapped c [] h = h
-hear_all-mapped c (m ∷ ms) h = hear_all-mapped (hear c m) ms (hear-mapped c.done (stop_in c.talk m) c m h)
-
-fails-mapped : (done : Option ClientEnd) (bad : Option BadFrame) (c : Client) → IsMapped c → IsMapped (while_going done (fails bad) c)
-fails-mapped (Some e) bad c h = h
-fails-mapped None None c h = h
-fails-mapped None (Some b) c h = h
-
-got-mapped : (done : Option ClientEnd) (piece : List ℕ) (c : Client) → IsMapped c → IsMapped (while_going done (λ d. reads (inbox_with piece d) (fed piece d)) c)
-got-mapped (Some e) piece c h = h
-got-mapped None piece c h =
-    let box : Inbox = inbox_with piece c in
-    let d : Client = hear_all (fed piece c) (drop (length c.heard) box.messages) in
-    fails-mapped d.done (bad_in box) d (hear_all-mapped (fed piece c) (drop (length c.heard) box.messages) h)
-
-tells-mapped : (talk : Option Talk) (moment : ℕ) (c : Client) → IsMapped c → IsMapped (tells talk moment c)
-tells-mapped None moment c h = h
-tells-mapped (Some t) moment c h = h
-
-passes-mapped : (done : Option ClientEnd) (moment : ℕ) (c : Client) → IsMapped c → IsMapped (while_going done (tells c.talk moment) c)
-passes-mapped (Some e) moment c h = h
-passes-mapped None moment c h = tells-mapped c.talk moment c h
-
-step-mapped : (c : Client) (happening : Happening) → IsMapped c → IsMapped (step c happening)
-step-mapped c (Got piece) h = got-mapped c.done piece c h
-step-mapped c (Moment moment) h = passes-mapped c.done moment c h
-step-mapped c (Took count) h = h
-step-mapped c (Ended why) h = h
-
-run-mapped : (c : Client) (happenings : List Happening) → IsMapped c → IsMapped (run c happenings)
-run-mapped c [] h = h
-run-mapped c (x ∷ xs) h = run-mapped (step c x) xs (step-mapped c x h)
-
 abbrev pub HasKeys : Client → Type 0
 HasKeys c = inputs (lines c) ≡ inputs (mapped_screen c.heard).lines
 
 pub joining-keys : (name : List ℕ) (w h : ℕ) (script : List ClientLine) (now : ℕ) (happenings : List Happening) → HasKeys (run (joining name w h script now) happenings)
-joining-keys name w h script now happenings = (run-mapped (joining name w h script now) happenings (record { mods = refl; lines = refl })).lines
+joining-keys name w h script now happenings = (run-keeps IsMapped listens-mapped (joining name w h script now) happenings (record { mods = refl; lines = refl })).lines
 
 pub injecting-keys : (happenings : List Happening) → HasKeys (run injecting happenings)
-injecting-keys happenings = (run-mapped injecting happenings (record { mods = refl; lines = refl })).lines
+injecting-keys happenings = (run-keeps IsMapped listens-mapped injecting happenings (record { mods = refl; lines = refl })).lines

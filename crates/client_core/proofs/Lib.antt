@@ -8,4 +8,5 @@ pub mod Streams
 pub mod Moments
 pub mod Injections
 pub mod ScreenRanges
+pub mod Listening
 pub mod ToldWholes

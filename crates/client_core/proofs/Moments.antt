@@ -1,6 +1,8 @@
 -- A client core over a moment, and over bytes that were taken.
-use Rattle.std.proofs.Common.{◌≡◌, ◌∙◌, ap, sym, subst, refl, ℕ, List, [], ◌++◌, length, take, Option, Some, None, Result, Ok, Err}
+use Rattle.std.proofs.Common.{◌≡◌, ◌∙◌, ap, sym, subst, ℕ, List, Option, Some, None, Result, Ok, Err}
+use Rattle.std.specs.Prelude.{◌≢◌, OnOk}
 use Rattle.std.specs.Option.{option_map}
+use Rattle.std.specs.Result.{result_unwrap_or}
 use Rattle.share_base.specs.declared.out_of_memory.OutOfMemory.{OutOfMemory}
 use Rattle.message_reader.specs.ReaderParts.{ReaderParts}
 use Rattle.client_talk.specs.Talks.{Talk, told}
@@ -14,7 +16,7 @@ use Rattle.client_core.specs.Hearing.{display}
 use Rattle.client_core.specs.Showing.{Shows}
 use Rattle.client_core.specs.Clients.{Client, while_going}
 use Rattle.client_core.specs.Happenings.{tells, passes, took}
-use Rattle.client_core.specs.Kept.{Hears, Kept, Stands, Follows, Passes, StopsAt}
+use Rattle.client_core.specs.Kept.{Kept, Stands, Follows, Passes, StopsAt}
 
 -- ---- a moment
 
@@ -41,12 +43,15 @@ told_so r h h' finish (Some t) moment c front is p same k = record {
   total = k.total;
 }
 
-pub passes_ok : (old : ClientCore) (r' : ReaderParts) (h' : Hearer) (done : Option ClientEnd) (moment : ℕ) → old.done ≡ None → r' ≡ old.reader → Passes moment old.hearer.talk h'.talk (Ok done) → h'.printer ≡ old.hearer.printer → (c : Client) (front : List ℕ) → Stands old c front → Kept r' h' done (passes moment c) front
-passes_ok old r' h' done moment none same p printer c front k =
+pub passes_ok : {A : Type 0} (old new : ClientCore) (outcome : Result (Option ClientEnd) OutOfMemory) (answer : Result A OutOfMemory) (moment : ℕ) → old.done ≡ None → new.reader ≡ old.reader → Passes moment old.hearer.talk new.hearer.talk outcome → new.hearer.printer ≡ old.hearer.printer → new.done ≡ result_unwrap_or outcome (Some end.OutOfMemory) → OnOk answer (new.done ≢ Some end.OutOfMemory) → OnOk answer (Follows old new (passes moment))
+passes_ok old new outcome (Err memory) moment none same p printer is fine = tt
+passes_ok old new (Err memory) (Ok u) moment none same p printer is fine = absurd (fine is)
+passes_ok old new (Ok done) (Ok u) moment none same p printer is fine = λ c front k.
     let going : Kept old.reader old.hearer None c front = subst (λ (d : Option ClientEnd). Kept old.reader old.hearer d c front) none k in
-    let next = told_so old.reader old.hearer h' done old.hearer.talk moment c front (sym going.hears.talk) p printer going in
-    subst (λ (x : Client). Kept r' h' done x front) (sym (going_on moment c old.hearer.talk (sym going.done_is) (sym going.hears.talk)))
-    (subst (λ (x : ReaderParts). Kept x h' done (tells old.hearer.talk moment c) front) (sym same) next)
+    let next = told_so old.reader old.hearer new.hearer done old.hearer.talk moment c front (sym going.hears.talk) p printer going in
+    subst (λ (x : Client). Stands new x front) (sym (going_on moment c old.hearer.talk (sym going.done_is) (sym going.hears.talk)))
+    (subst (λ (x : ReaderParts). Kept x new.hearer new.done (tells old.hearer.talk moment c) front) (sym same)
+    (subst (λ (d : Option ClientEnd). Kept old.reader new.hearer d (tells old.hearer.talk moment c) front) (sym is) next))
 
 -- one that is done stays as it is
 pub passes_done : (old : ClientCore) (e : ClientEnd) (moment : ℕ) → old.done ≡ Some e → Follows old old (passes moment)

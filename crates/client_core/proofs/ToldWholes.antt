@@ -1,34 +1,29 @@
 -- The lines that tell the bytes of clipboards are one for each whole.
-use Rattle.std.proofs.Common.{◌≡◌, ◌∙◌, ap, sym, refl, subst, ℕ, Bool, true, false, cond, List, [], ◌∷◌, ◌++◌, map, length, drop, Option, Some, None}
+use Rattle.std.proofs.Common.{◌≡◌, ◌∙◌, ap, sym, refl, ℕ, Bool, true, false, cond, List, [], ◌∷◌, ◌++◌, map, Option, Some, None}
 use Rattle.std.specs.Prelude.{reverse, fold, if◌then◌else◌, ◌==◌}
 use Rattle.std.specs.List.{filter, filter_map}
-use Rattle.std.specs.Option.{option_map}
 use Rattle.std.proofs.lemmas.List.{append-nil, map-append, reverse-append}
 use Rattle.std.proofs.lemmas.List.Elements.{filter-append, filter_map-append}
 use Rattle.std.proofs.lemmas.List.Sums.{fold-append}
 use Rattle.message_codec.specs.declared.messages.Msg.{Msg}
 use Rattle.message_codec.specs.declared.messages.Msg.TheVariants as msg
-use Rattle.message_codec.specs.Inboxes.{Inbox}
-use Rattle.message_reader.specs.declared.reader.BadFrame.{BadFrame}
 use Rattle.script_screen.specs.declared.client_script.ClientLine.{ClientLine}
 use Rattle.clip_chunks.specs.Parts.{Part, part, part_of, parts_among}
-use Rattle.clip_chunks.specs.OpenRuns.{Whole, whole_of, whole_at, wholes, wholes_among}
+use Rattle.clip_chunks.specs.OpenRuns.{Whole, whole_of, whole_at, wholes}
 use Rattle.held_inputs.specs.declared.keys.HeldKey.{HeldKey}
 use Rattle.held_inputs.specs.declared.line.Line.{Line}
 use Rattle.held_inputs.specs.declared.line.Line.TheVariants as line
 use Rattle.held_inputs.specs.Down.{down, is_button_down, up_of, held_keys, held_buttons, releases}
-use Rattle.held_inputs.specs.Screen.{Screen, Applies, first_press, press, repeat, lift, saver_line, applied, after, meant_id, meant_mask}
+use Rattle.held_inputs.specs.Screen.{Screen, first_press, press, repeat, lift, applied, meant_id, meant_mask}
 use Rattle.client_talk.specs.Options.{pairs}
 use Rattle.client_talk.specs.Talks.{Talk}
-use Rattle.client_talk.specs.Answers.{is_for_screen, hears}
-use Rattle.client_core.specs.declared.client_end.ClientEnd.{ClientEnd}
+use Rattle.client_talk.specs.Answers.{is_for_screen}
 use Rattle.client_core.specs.declared.clipboards.TheConstants.{CLIP_LIMIT}
-use Rattle.client_core.specs.declared.stop.Stop.{Stop}
-use Rattle.client_core.specs.Ends.{stop_in}
-use Rattle.client_core.specs.Clipboards.{whole_line, tells_bytes, TellWholes}
-use Rattle.client_core.specs.Hearing.{Display, option_lines, heard, fresh, heard_all, display, client}
-use Rattle.client_core.specs.Clients.{Client, while_going, shown_of, listens, takes, hear, hear_all, fed, inbox_with, bad_in, fails, reads, got}
-use Rattle.client_core.specs.Happenings.{Happening, Got, Moment, Took, Ended, injecting, joining, tells, passes, step, run, TellsWholes}
+use Rattle.client_core.specs.Clipboards.{whole_line, tells_bytes}
+use Rattle.client_core.specs.Hearing.{Display, option_lines, heard, fresh, heard_all, display}
+use Rattle.client_core.specs.Clients.{Client, shown_of}
+use Rattle.client_core.specs.Happenings.{Happening, injecting, joining, run, TellsWholes}
+use Rattle.client_core.proofs.Listening.{On, IsKept, run-keeps}
 
 -- ---- lines of the injector tell no bytes
 
@@ -162,56 +157,20 @@ more_parts messages m = ap reverse (filter_map-append part_of messages (m ∷ []
     by None more is = ap (λ (t : List Part). reverse (parts_among messages ++ t)) is ∙ ap reverse (append-nil (parts_among messages))
     by (Some p) more is = ap (λ (t : List Part). reverse (parts_among messages ++ t)) is ∙ reverse-append (parts_among messages) (p ∷ [])
 
-abbrev SameParts : Client → Type 0
-SameParts c = (display c.shown).parts ≡ reverse (parts_among c.heard)
+abbrev SameParts : List Msg → List Msg → Type 0
+SameParts shown heard = (display shown).parts ≡ reverse (parts_among heard)
 
-same-listens : (c : Client) (m : Msg) → SameParts c → SameParts (listens m c)
-same-listens c m same =
+same-parts : IsKept SameParts
+same-parts c m same =
     ap (λ (d : Display). d.parts) (fold-append heard fresh c.shown (shown_of c.talk m))
     ∙ parts-shown c.talk (display c.shown) m
     ∙ ap (with_part (part_of m)) same
     ∙ sym (more_parts c.heard m)
 
-same-hear : (done : Option ClientEnd) (by : Option Stop) (c : Client) (m : Msg) → SameParts c → SameParts (while_going done (takes by m) c)
-same-hear (Some e) by c m same = same
-same-hear None (Some s) c m same = same
-same-hear None None c m same = same-listens c m same
-
-same-all : (c : Client) (ms : List Msg) → SameParts c → SameParts (hear_all c ms)
-same-all c [] same = same
-same-all c (m ∷ ms) same = same-all (hear c m) ms (same-hear c.done (stop_in c.talk m) c m same)
-
-same-fails : (done : Option ClientEnd) (bad : Option BadFrame) (c : Client) → SameParts c → SameParts (while_going done (fails bad) c)
-same-fails (Some e) bad c same = same
-same-fails None None c same = same
-same-fails None (Some b) c same = same
-
-same-got : (done : Option ClientEnd) (piece : List ℕ) (c : Client) → SameParts c → SameParts (while_going done (λ d. reads (inbox_with piece d) (fed piece d)) c)
-same-got (Some e) piece c same = same
-same-got None piece c same =
-    let box : Inbox = inbox_with piece c in
-    let d : Client = hear_all (fed piece c) (drop (length c.heard) box.messages) in
-    same-fails d.done (bad_in box) d (same-all (fed piece c) (drop (length c.heard) box.messages) same)
-
-same-tells : (talk : Option Talk) (moment : ℕ) (c : Client) → SameParts c → SameParts (tells talk moment c)
-same-tells None moment c same = same
-same-tells (Some t) moment c same = same
-
-same-passes : (done : Option ClientEnd) (moment : ℕ) (c : Client) → SameParts c → SameParts (while_going done (tells c.talk moment) c)
-same-passes (Some e) moment c same = same
-same-passes None moment c same = same-tells c.talk moment c same
-
-same-step : (c : Client) (happening : Happening) → SameParts c → SameParts (step c happening)
-same-step c (Got piece) same = same-got c.done piece c same
-same-step c (Moment moment) same = same-passes c.done moment c same
-same-step c (Took count) same = same
-same-step c (Ended why) same = same
-
 -- ---- all happenings
 
-told : (c : Client) (happenings : List Happening) → SameParts c → TellsWholes (run c happenings)
-told c [] same = tells-display c.shown ∙ ap (λ (ps : List Part). map whole_line (wholes CLIP_LIMIT ps)) same
-told c (h ∷ hs) same = told (step c h) hs (same-step c h same)
+told : (c : Client) (happenings : List Happening) → On SameParts c → TellsWholes (run c happenings)
+told c happenings same = tells-display (run c happenings).shown ∙ ap (λ (ps : List Part). map whole_line (wholes CLIP_LIMIT ps)) (run-keeps SameParts same-parts c happenings same)
 
 pub told-injecting : (happenings : List Happening) → TellsWholes (run injecting happenings)
 told-injecting happenings = told injecting happenings refl

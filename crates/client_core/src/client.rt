@@ -107,20 +107,11 @@ impl ClientCore {
         ensures role { self.new.reader.role ≡ self.old.reader.role }
         ensures total { self.new.reader.total ≤ self.old.reader.total + length piece.now }
     {
-        match self.done {
-            None => match hear_piece(&mut self.reader, &mut self.hearer, piece) {
-                Ok(done) => {
-                    self.done = done;
-                    Ok(())
-                }
-                Err(OutOfMemory) => {
-                    self.done = Some(ClientEnd::OutOfMemory);
-                    Err(OutOfMemory)
-                }
-            },
-            Some(ClientEnd::OutOfMemory) => Err(OutOfMemory),
-            Some(_) => Ok(()),
+        if self.done.is_none() {
+            let heard = hear_piece(&mut self.reader, &mut self.hearer, piece);
+            self.done = heard.unwrap_or(Some(ClientEnd::OutOfMemory));
         }
+        answer(self.done)
     }
 
     /// Passes to that moment, if it is later than the client's own. A server that was not heard for
@@ -137,20 +128,11 @@ impl ClientCore {
         ensures lines { lines_in self.new ≡ lines_in self.old }
         ensures reader { self.new.reader ≡ self.old.reader }
     {
-        match self.done {
-            None => match pass(&mut self.hearer, moment) {
-                Ok(done) => {
-                    self.done = done;
-                    Ok(())
-                }
-                Err(OutOfMemory) => {
-                    self.done = Some(ClientEnd::OutOfMemory);
-                    Err(OutOfMemory)
-                }
-            },
-            Some(ClientEnd::OutOfMemory) => Err(OutOfMemory),
-            Some(_) => Ok(()),
+        if self.done.is_none() {
+            let passed = pass(&mut self.hearer, moment);
+            self.done = passed.unwrap_or(Some(ClientEnd::OutOfMemory));
         }
+        answer(self.done)
     }
 
     /// Returns how the client ended; `None` while it goes on.
@@ -245,6 +227,17 @@ impl ClientCore {
     {
         self.done = Some(self.done.unwrap_or(why));
         self.hearer.printer.release_all()
+    }
+}
+
+// Returns the answer of a call after which the client has that end, or none.
+fn answer(done: Option<ClientEnd>) -> Result<(), OutOfMemory>
+    ensures ok { OnOk result (done ≢ Some ClientEnd.OutOfMemory) }
+    ensures err { OnErr result (done ≡ Some ClientEnd.OutOfMemory) }
+{
+    match done {
+        Some(ClientEnd::OutOfMemory) => Err(OutOfMemory),
+        _ => Ok(()),
     }
 }
 

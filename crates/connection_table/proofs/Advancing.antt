@@ -1,16 +1,17 @@
 -- What a change of a phase, and a part of a clipboard, keep of the machine's connections.
-use Rattle.std.specs.Prelude.{◌≡◌, refl, ℕ, ◌<◌, ◌==◌, Bool, true, false, not, cond, List, [], ◌∷◌, MatchBool, Option, Some, None}
+use Rattle.std.specs.Prelude.{◌≡◌, refl, ℕ, ◌<◌, ◌==◌, Bool, true, false, not, cond, List, [], ◌∷◌, MatchBool, Option, Some}
 use Rattle.std.specs.List.{find}
-use Rattle.std.proofs.Common.{arith, sym, ap, ◌∙◌, subst}
+use Rattle.std.proofs.Common.{sym, ap, ◌∙◌, subst}
 use Rattle.share_base.specs.declared.clip_id.ClipId.{ClipId}
 use Rattle.share_base.specs.declared.shape.Shape.{Shape}
 use Rattle.share_base.specs.declared.clip_id.ClipId.TheVariants.{Clipboard, Selection}
 use Rattle.message_codec.specs.declared.clip_mark.ClipMark.{ClipMark}
 use Rattle.clip_chunks.specs.Parts.{part}
 use Rattle.clip_chunks.specs.OpenRuns.{whole_at}
-use Rattle.hello_states.specs.Phases.{Phase, Greeting, Asked, Joined, Parting, is_parting, used_screen, after_beat_in, after_hearing_in}
+use Rattle.hello_states.specs.declared.part_cause.PartCause.{PartCause}
+use Rattle.hello_states.specs.Phases.{Phase, AskedScreen, JoinedScreen, Greeting, Asked, Joined, Parting, is_parting, used_screen, after_beat_in, after_hearing_in}
 use Rattle.hello_states.specs.Advancing.{admitted_as, joined_with, reshaped_to}
-use Rattle.machine.specs.Connections.{Connection, has_serial, is_live, changed}
+use Rattle.machine.specs.Connections.{Connection, has_serial, changed}
 use Rattle.machine.specs.Hearing.{with_part, was_heard}
 use Rattle.machine.specs.Timers.{sent_beat}
 use Rattle.connection_table.specs.declared.connection.Connection as kept
@@ -94,65 +95,33 @@ whole-found a n clip seq mark bytes whole ks ls cs c e h g =
 
 -- ---- each change
 
-pub beat-course : (now : ℕ) → IsCourse (λ p. after_beat_in p now)
-beat-course now = record { ends = ends; keeps = keeps }
-  where
-    ends : (p : Phase) → not (is_parting (after_beat_in p now)) ≡ true → not (is_parting p) ≡ true
-    ends (Greeting a) h = refl
-    ends (Asked a) h = refl
-    ends (Joined a) h = refl
-    ends (Parting a b) h = h
+-- it is parting where it was before, and uses the screen that it used
+abbrev StaysIn : (Phase → Phase) → Phase → Type 0
+StaysIn next p = (is_parting (next p) ≡ is_parting p) × (used_screen (next p) ≡ used_screen p)
 
-    keeps : (count : ℕ) (p : Phase) → IsKnown count (used_screen p) → IsKnown count (used_screen (after_beat_in p now))
-    keeps count (Greeting a) h = h
-    keeps count (Asked a) h = h
-    keeps count (Joined a) h = h
-    keeps count (Parting a b) h = h
+course : (next : Phase → Phase) → ((a : ℕ) → StaysIn next (Greeting a)) → ((a : AskedScreen) → StaysIn next (Asked a)) → ((a : JoinedScreen) → StaysIn next (Joined a)) → ((a : PartCause) (b : ℕ) → StaysIn next (Parting a b)) → IsCourse next
+course next greeting asked joined parting = record {
+  ends = λ p h. subst (λ b. not b ≡ true) (stays p).0 h;
+  keeps = λ count p h. subst (IsKnown count) (sym (stays p).1) h;
+}
+  where
+    stays : (p : Phase) → StaysIn next p
+    stays (Greeting a) = greeting a
+    stays (Asked a) = asked a
+    stays (Joined a) = joined a
+    stays (Parting a b) = parting a b
+
+pub beat-course : (now : ℕ) → IsCourse (λ p. after_beat_in p now)
+beat-course now = course (λ p. after_beat_in p now) (λ a. (refl, refl)) (λ a. (refl, refl)) (λ a. (refl, refl)) (λ a b. (refl, refl))
 
 pub hearing-course : (now : ℕ) → IsCourse (λ p. after_hearing_in p now)
-hearing-course now = record { ends = ends; keeps = keeps }
-  where
-    ends : (p : Phase) → not (is_parting (after_hearing_in p now)) ≡ true → not (is_parting p) ≡ true
-    ends (Greeting a) h = refl
-    ends (Asked a) h = refl
-    ends (Joined a) h = refl
-    ends (Parting a b) h = h
-
-    keeps : (count : ℕ) (p : Phase) → IsKnown count (used_screen p) → IsKnown count (used_screen (after_hearing_in p now))
-    keeps count (Greeting a) h = h
-    keeps count (Asked a) h = h
-    keeps count (Joined a) h = h
-    keeps count (Parting a b) h = h
+hearing-course now = course (λ p. after_hearing_in p now) (λ a. (refl, refl)) (λ a. (refl, refl)) (λ a. (refl, refl)) (λ a b. (refl, refl))
 
 pub joining-course : (shape : Shape) (now : ℕ) → IsCourse (joined_with shape now)
-joining-course shape now = record { ends = ends; keeps = keeps }
-  where
-    ends : (p : Phase) → not (is_parting (joined_with shape now p)) ≡ true → not (is_parting p) ≡ true
-    ends (Greeting a) h = refl
-    ends (Asked a) h = refl
-    ends (Joined a) h = refl
-    ends (Parting a b) h = h
-
-    keeps : (count : ℕ) (p : Phase) → IsKnown count (used_screen p) → IsKnown count (used_screen (joined_with shape now p))
-    keeps count (Greeting a) h = h
-    keeps count (Asked a) h = h
-    keeps count (Joined a) h = h
-    keeps count (Parting a b) h = h
+joining-course shape now = course (joined_with shape now) (λ a. (refl, refl)) (λ a. (refl, refl)) (λ a. (refl, refl)) (λ a b. (refl, refl))
 
 pub reshaping-course : (shape : Shape) (now : ℕ) → IsCourse (reshaped_to shape now)
-reshaping-course shape now = record { ends = ends; keeps = keeps }
-  where
-    ends : (p : Phase) → not (is_parting (reshaped_to shape now p)) ≡ true → not (is_parting p) ≡ true
-    ends (Greeting a) h = refl
-    ends (Asked a) h = refl
-    ends (Joined a) h = refl
-    ends (Parting a b) h = h
-
-    keeps : (count : ℕ) (p : Phase) → IsKnown count (used_screen p) → IsKnown count (used_screen (reshaped_to shape now p))
-    keeps count (Greeting a) h = h
-    keeps count (Asked a) h = h
-    keeps count (Joined a) h = h
-    keeps count (Parting a b) h = h
+reshaping-course shape now = course (reshaped_to shape now) (λ a. (refl, refl)) (λ a. (refl, refl)) (λ a. (refl, refl)) (λ a b. (refl, refl))
 
 -- an admission
 pub admission-ends : (screen rate : ℕ) (p : Phase) → not (is_parting (admitted_as screen rate p)) ≡ true → not (is_parting p) ≡ true

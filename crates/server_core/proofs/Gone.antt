@@ -15,27 +15,17 @@ use Rattle.machine.specs.Steps.{drops, judge}
 use Rattle.machine.proofs.Rules.{for_some-keeps}
 use Rattle.machine.proofs.Live.{IsLive, changed-live, lives-live, parted-tame, drops-tame}
 use Rattle.machine.proofs.Invariant.{View, On, IsInvariant}
-use Rattle.machine.proofs.AnyButton.{any, any_origin, rules-any, lines-any}
+use Rattle.machine.proofs.AnyButton.{any, any_origin, of-connections}
 use Rattle.machine.proofs.KeepPartings.{marked-off, lose-keeps, part_slow-keeps}
 
 abbrev pub Gone : ℕ → View → Type 0
 Gone n v = IsLive v.connections (Client n) → ⊥
 
 pub gone : (n : ℕ) → IsInvariant any any_origin (Gone n)
-gone n = record {
-  own = refl;
-  rules = λ s h. rules-any s.config.hotkeys;
-  script = λ s h. lines-any s.lines;
-  plain = λ o a t m p s k h. h;
-  input = λ o a m p b s h. h;
-  switched = λ o a to p s on h. h;
-  fell = λ p s off h. h;
-  changed = λ serial f tame same none s h. λ k. h (changed-live serial f tame s.connections (Client n) k);
-  parts = λ cause serial s on h. λ k. h (changed-live serial (parted cause s.at) (parted-tame cause s.at) s.connections (Client n) k);
-  discards = λ serial s off h. λ k. h (changed-live serial drops drops-tame s.connections (Client n) k);
-  logged = λ lines s h. h;
-  ahead = λ lines k s h. h;
-}
+gone n = of-connections (λ cs. IsLive cs (Client n) → ⊥)
+    (λ serial f tame same none cs h. λ k. h (changed-live serial f tame cs (Client n) k))
+    (λ cause serial now cs on h. λ k. h (changed-live serial (parted cause now) (parted-tame cause now) cs (Client n) k))
+    (λ serial s off h. λ k. h (changed-live serial drops drops-tame s.connections (Client n) k))
 
 pub parted-gone : (why : PartCause) (serial : ℕ) (s : State) → On (Gone serial) (part why serial s)
 parted-gone why serial s =
