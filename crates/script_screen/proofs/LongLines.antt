@@ -1,11 +1,8 @@
 -- A line of more than four words is of no form.
-use Rattle.std.proofs.Common.{◌≡◌, ℕ, ◌+◌, ◌<◌, ◌≤◌, Bool, true, false, ◌&&◌, List, [], ◌∷◌, length}
-use Rattle.std.proofs.Common.{refl, ap, sym, ◌∙◌, arith}
-use Rattle.std.specs.Prelude.{◌==◌, nat_le, Option, Some, None, Result, Ok, Err}
-use Rattle.std.specs.List.{find}
+use Rattle.std.proofs.Common.{◌≡◌, ℕ, ◌+◌, ◌<◌, Bool, true, false, ◌&&◌, List, length}
+use Rattle.std.proofs.Common.{refl, arith}
+use Rattle.std.specs.Prelude.{◌==◌, nat_le, Option, None, Err}
 use Rattle.std.proofs.lemmas.Bool.Decides.{nat_tests}
-use Rattle.text_lines.specs.Reading.{◌>>=◌}
-use Rattle.script_screen.specs.declared.kinds.TextKind.{TextKind}
 use Rattle.script_screen.specs.declared.kinds.TextKind.TheVariants as kind
 use Rattle.script_screen.specs.declared.forms.ScriptForm.{ScriptForm}
 use Rattle.script_screen.specs.declared.forms.ScriptForm.TheVariants as script

@@ -4,14 +4,12 @@ use Rattle.std.proofs.Common.{◌∙◌, ◌⊎◌, inl, inr, subst}
 use Rattle.std.specs.Prelude.{IfOk, IfErr}
 use Rattle.std.specs.Str.Lines.{lines}
 use Rattle.text_lines.specs.Reading.{◌>>=◌}
-use Rattle.text_lines.specs.LineByLine.{all_lines, LeadsOver, OffendsIn}
+use Rattle.text_lines.specs.LineByLine.{LeadsOver, OffendsIn}
 use Rattle.text_lines.proofs.LineRuns.{leads, led, offends, offended, after_good, after_bad}
 use Rattle.script_screen.specs.declared.kinds.TextKind.{TextKind}
 use Rattle.script_screen.specs.declared.kinds.TextKind.TheVariants as kind
 use Rattle.script_screen.specs.declared.kinds.TextFault.{TextFault}
 use Rattle.script_screen.specs.declared.kinds.TextFault.TheVariants as text_fault
-use Rattle.script_screen.specs.declared.client_script.ClientLine.{ClientLine}
-use Rattle.script_screen.specs.declared.trace.TraceLine.{TraceLine}
 use Rattle.script_screen.specs.declared.script.Primary.{Primary}
 use Rattle.script_screen.specs.declared.script.ScriptLine.{ScriptLine}
 use Rattle.script_screen.specs.NumberedLines.{TextRefusal, refused_at, numbered, text_judged}
@@ -20,7 +18,7 @@ use Rattle.script_screen.specs.Screens.{KnownScreens}
 use Rattle.script_screen.specs.Scripts.{ScriptText}
 use Rattle.script_screen.specs.Texts.{ScriptSoFar, script_start, script_judged, client_judged}
 use Rattle.script_screen.specs.Texts.{trace_judged, script_closed, script_reading}
-use Rattle.script_screen.specs.Verdicts.{HasOneVerdict, ScriptAccepts, ScriptRefuses, HasNoPrimary}
+use Rattle.script_screen.specs.Verdicts.{HasOneVerdict, ScriptAccepts, ScriptRefuses}
 use Rattle.script_screen.specs.Verdicts.{ClientAccepts, ClientRefuses, TraceAccepts, TraceRefuses}
 
 -- a reading gives a value exactly where that is accepted, and a refusal exactly where that is the

@@ -1,5 +1,5 @@
 -- A line of a row's form.
-use Rattle.std.proofs.Common.{◌≡◌, ℕ, ◌+◌, ◌<◌, ◌≤◌, true, false, cond, ◌&&◌, List, [], ◌∷◌, length}
+use Rattle.std.proofs.Common.{◌≡◌, ℕ, ◌+◌, ◌≤◌, true, false, cond, List, [], ◌∷◌, length}
 use Rattle.std.proofs.Common.{map, drop, refl, ap, sym, ◌∙◌, arith, Bor}
 use Rattle.std.specs.Prelude.{◌==◌, Option, Some, None, Bool}
 use Rattle.std.specs.List.{find}

@@ -1,9 +1,9 @@
 -- What a trace's lines say, and one line more.
 use Rattle.std.proofs.Common.{◌≡◌, ℕ, ◌+◌, ◌-◌, ◌<◌, ◌≤◌, Bool, true, false, cond, List, [], ◌∷◌}
 use Rattle.std.proofs.Common.{◌++◌, length, get_or, max, zero, suc, length-append, refl, ap, sym}
-use Rattle.std.proofs.Common.{◌∙◌, arith, ◌≢◌, ◌⊎◌, inl, inr}
-use Rattle.std.specs.Prelude.{◌==◌, ◌&&◌, ◌||◌, not, nat_le, nat_lt, Option, Some, None, count_by}
-use Rattle.std.specs.List.{fold, list_any}
+use Rattle.std.proofs.Common.{◌∙◌, arith, ◌⊎◌, inl, inr}
+use Rattle.std.specs.Prelude.{◌==◌, ◌&&◌, ◌||◌, not, nat_le, Option, Some, None, count_by}
+use Rattle.std.specs.List.{list_any}
 use Rattle.std.proofs.lemmas.Bool.{eqb-true}
 use Rattle.std.proofs.lemmas.Bool.Decides.{nat_tests}
 use Rattle.std.proofs.lemmas.List.{get_or_default}
@@ -15,7 +15,7 @@ use Rattle.script_screen.specs.declared.trace.TraceLine.{TraceLine}
 use Rattle.script_screen.specs.declared.trace.TraceLine.TheVariants as line
 use Rattle.script_screen.specs.declared.track.Track.{Track}
 use Rattle.script_screen.specs.Traces.{moment_after, latest_moment, is_join, is_join_of, is_end_of}
-use Rattle.script_screen.specs.Traces.{join_count, is_known, is_over, is_going, unless_known}
+use Rattle.script_screen.specs.Traces.{join_count, is_known, is_over, is_going}
 use Rattle.script_screen.specs.Traces.{trace_fault}
 use Rattle.script_screen.specs.Tracking.{IsTrackAfter}
 

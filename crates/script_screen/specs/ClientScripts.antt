@@ -1,5 +1,5 @@
 -- Client scripts.
-use Rattle.std.specs.Prelude.{ℕ, ◌≤◌, length}
+use Rattle.std.specs.Prelude.{◌≤◌, length}
 use Rattle.script_screen.specs.declared.client_script.ClientLine.{ClientLine}
 use Rattle.script_screen.specs.declared.client_script.ClientLine.TheVariants as line
 

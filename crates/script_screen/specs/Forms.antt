@@ -1,5 +1,5 @@
 -- The forms of lines, a row for each: the words that it begins with, and its arguments.
-use Rattle.std.specs.Prelude.{ℕ, ◌-◌, ◌^◌, List, [], ◌∷◌, codes}
+use Rattle.std.specs.Prelude.{◌-◌, ◌^◌, List, [], ◌∷◌, codes}
 use Rattle.script_screen.specs.declared.forms.ScriptForm.{ScriptForm}
 use Rattle.script_screen.specs.declared.forms.ScriptForm.TheVariants as script
 use Rattle.script_screen.specs.declared.forms.ClientForm.{ClientForm}

@@ -1,9 +1,7 @@
 -- Server scripts: their lines, the buttons that lines leave down, and what every script keeps.
 use Rattle.std.specs.Prelude.{◌≡◌, ℕ, ◌<◌, ◌≤◌, ◌==◌, Bool, true, false, if◌then◌else◌, List, []}
-use Rattle.std.specs.Prelude.{◌∷◌, ◌++◌, length, Option, Some, None, Result, Ok, Err, All}
+use Rattle.std.specs.Prelude.{◌∷◌, ◌++◌, length, Option, Some, None, All}
 use Rattle.std.specs.List.{fold}
-use Rattle.share_base.specs.declared.clip_id.ClipId.{ClipId}
-use Rattle.share_base.specs.declared.clip_id.ClipId.TheVariants.{Clipboard, Selection}
 use Rattle.script_screen.specs.declared.kinds.TextKind.{TextKind}
 use Rattle.script_screen.specs.declared.kinds.TextKind.TheVariants as kind
 use Rattle.script_screen.specs.declared.script.ScriptLine.{ScriptLine}

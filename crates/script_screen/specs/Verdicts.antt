@@ -1,7 +1,7 @@
 -- Which texts are scripts and traces, and where and why the others are refused: a text is accepted
 -- where each line is good in what the lines above it gave, and refused at its first line that
 -- isn't.
-use Rattle.std.specs.Prelude.{◌≡◌, ℕ, List, [], Option, Some, None, ◌⊎◌}
+use Rattle.std.specs.Prelude.{◌≡◌, ℕ, List, [], Some, None, ◌⊎◌}
 use Rattle.std.specs.Str.Lines.{lines}
 use Rattle.text_lines.specs.LineByLine.{LeadsOver, OffendsIn}
 use Rattle.script_screen.specs.declared.kinds.TextKind.TheVariants as kind

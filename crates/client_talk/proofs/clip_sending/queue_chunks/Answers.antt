@@ -1,6 +1,6 @@
 use Rattle.std.proofs.Common.{ℕ, List, length, min, ◌∙◌, ap}
 use Rattle.std.specs.Slice.Iter.{chunks_rest}
-use Rattle.client_talk.proofs.Sending.{begins-then, more_queued, all_queued}
+use Rattle.client_talk.proofs.Sending.{begins-then, more_queued}
 use Rattle.client_talk.proofs.clip_sending.queue_chunks.Goals as goal
 
 pub loop-chunk-preserved : goal.loop-chunk-preserved

@@ -1,11 +1,10 @@
-use Rattle.std.proofs.Common.{◌≡◌, ℕ, ◌<◌, ◌≤◌, ◌/◌, List, length, Option, false, sym, ◌∙◌, ap}
+use Rattle.std.proofs.Common.{◌≡◌, ℕ, ◌<◌, List, length, Option, false, sym, ◌∙◌, ap}
 use Rattle.std.proofs.Common.{arith, subst, inl, inr}
-use Rattle.std.specs.Prelude.{Result, Ok, Err, codes, IfOk}
+use Rattle.std.specs.Prelude.{codes}
 use Rattle.std.specs.Str.{bytes_eq}
 use Rattle.script_screen.specs.declared.kinds.TextKind.TheVariants as kind
 use Rattle.script_screen.specs.Answers.{LineGives}
 use Rattle.script_screen.specs.Grammar.{or_kind}
-use Rattle.script_screen.specs.Hex.{bytes_within, pairs_of}
 use Rattle.script_screen.proofs.WordSteps.{some_left}
 use Rattle.script_screen.proofs.PairSteps.{within_sizes, outside_sizes, sizes_hold}
 use Rattle.script_screen.proofs.arguments.bytes_of.Goals as goal

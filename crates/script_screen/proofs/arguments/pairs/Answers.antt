@@ -1,4 +1,4 @@
-use Rattle.std.proofs.Common.{◌≡◌, ℕ, List, Option, Some, None, sym, ◌∙◌, ap, arith}
+use Rattle.std.proofs.Common.{ℕ, List, Option, sym, ◌∙◌, ap, arith}
 use Rattle.script_screen.specs.declared.kinds.TextKind.TheVariants as kind
 use Rattle.script_screen.specs.Grammar.{or_kind}
 use Rattle.script_screen.specs.Hex.{pairs_of}

@@ -1,4 +1,4 @@
-use Rattle.std.proofs.Common.{◌≡◌, length, Option, ℕ, List}
+use Rattle.std.proofs.Common.{◌≡◌, length}
 use Rattle.script_screen.specs.Hex.{pairs_of}
 use Rattle.script_screen.proofs.PairSteps.{bytes_before}
 use Rattle.script_screen.proofs.arguments.pairs.Given as goal

@@ -1,5 +1,5 @@
 use Rattle.std.proofs.Common.{[]}
-use Rattle.script_screen.specs.Texts.{script_start, script_judged, client_judged, trace_judged}
+use Rattle.script_screen.specs.Texts.{client_judged, trace_judged}
 use Rattle.script_screen.specs.Texts.{script_reading}
 use Rattle.script_screen.specs.NumberedLines.{text_judged}
 use Rattle.script_screen.proofs.Readings.{is_script_reading, is_client_reading, is_trace_reading}

@@ -1,4 +1,4 @@
-use Rattle.std.proofs.Common.{◌≡◌, ap, subst}
+use Rattle.std.proofs.Common.{subst}
 use Rattle.std.specs.Prelude.{IfOk, None}
 use Rattle.script_screen.specs.Screens.{KnownScreens, screen_count}
 use Rattle.script_screen.specs.Scripts.{ScreensBelow}

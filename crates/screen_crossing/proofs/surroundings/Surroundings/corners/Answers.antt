@@ -1,4 +1,4 @@
-use Rattle.std.specs.Prelude.{ℕ, Option, slice_get, length, ◌≤◌, unwrap_or}
+use Rattle.std.specs.Prelude.{Option, length, ◌≤◌, unwrap_or}
 use Rattle.std.proofs.Common.{sym, ap, ◌∙◌, arith}
 use Rattle.std.proofs.lemmas.Option.{slice_get_past}
 use Rattle.share_base.specs.declared.corners.Corners.{Corners}

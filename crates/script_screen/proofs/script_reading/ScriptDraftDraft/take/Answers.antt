@@ -1,10 +1,9 @@
-use Rattle.std.proofs.Common.{◌≡◌, ℕ, List, map, sym, ◌∙◌, ap, subst}
-use Rattle.std.specs.Prelude.{Result, Ok, Err}
+use Rattle.std.proofs.Common.{◌≡◌, ℕ, List, map, sym, ◌∙◌, ap}
+use Rattle.std.specs.Prelude.{Result, Err}
 use Rattle.text_lines.specs.Reading.{◌>>=◌}
 use Rattle.text_lines.specs.Words.{words_of}
 use Rattle.script_screen.specs.declared.kinds.TextKind.{TextKind}
 use Rattle.script_screen.specs.declared.script.ScriptItem.{ScriptItem}
-use Rattle.script_screen.specs.Answers.{LineGives}
 use Rattle.script_screen.specs.Forms.{script_row, script_forms}
 use Rattle.script_screen.specs.Grammar.{takes, line_of}
 use Rattle.script_screen.specs.Screens.{KnownScreens, screen_named}

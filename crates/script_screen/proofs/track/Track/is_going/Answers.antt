@@ -1,5 +1,4 @@
-use Rattle.std.proofs.Common.{◌≡◌, ℕ, ◌<◌, true, sym, ◌∙◌, arith, rules}
-use Rattle.script_screen.specs.Traces.{is_known}
+use Rattle.std.proofs.Common.{sym, ◌∙◌}
 use Rattle.script_screen.proofs.TrackSteps.{going_by}
 use Rattle.script_screen.proofs.track.Track.is_going.Goals as goal
 
