@@ -17,7 +17,6 @@ use Rattle.screen_config.specs.Globals.{wire_options_of}
 use Rattle.hello_states.specs.declared.part_cause.PartCause.TheVariants as cause
 use Rattle.clip_chunks.specs.Parts.{Part}
 use Rattle.clip_chunks.specs.OpenRuns.{whole_at}
-use Rattle.clip_chunks.specs.Clips.{clip_of}
 use Rattle.clip_chunks.specs.Rules as rules
 use Rattle.clip_chunks.specs.Wholes.{EndsWhole}
 use Rattle.clip_chunks.proofs.EndedRuns.{ends_whole}

@@ -1,11 +1,10 @@
 -- Clients over messages one after another.
-use Rattle.std.proofs.Common.{◌≡◌, ◌∙◌, ap, sym, refl, ℕ, List, [], ◌∷◌, ◌++◌, length, drop, Option, Some, None, append_assoc}
-use Rattle.std.proofs.lemmas.List.{drop_at, append-nil}
+use Rattle.std.proofs.Common.{◌≡◌, ◌∙◌, ap, sym, refl, ℕ, List, [], ◌∷◌, ◌++◌, length, drop, Option, Some, None}
+use Rattle.std.proofs.lemmas.List.{drop_at}
 use Rattle.std.proofs.lemmas.List.Sums.{fold-append, fold_push}
 use Rattle.message_codec.specs.declared.messages.Msg.{Msg}
 use Rattle.message_codec.specs.Inboxes.{Inbox}
 use Rattle.message_reader.specs.declared.reader.BadFrame.{BadFrame}
-use Rattle.message_reader.specs.declared.role.Role.{Role}
 use Rattle.client_core.specs.declared.client_end.ClientEnd.{ClientEnd}
 use Rattle.client_core.specs.declared.stop.Stop.{Stop}
 use Rattle.client_core.specs.Ends.{stop_in}

@@ -1,5 +1,5 @@
 -- A client that injects, in terms of the verdict on its stream.
-use Rattle.std.proofs.Common.{◌≡◌, ◌∙◌, ap, sym, subst, refl, inl, arith, ℕ, List, [], ◌∷◌, ◌++◌, length, drop, Option, Some, None, Result, Ok, Err, append_assoc}
+use Rattle.std.proofs.Common.{◌≡◌, ◌∙◌, ap, sym, subst, refl, inl, arith, ℕ, List, [], ◌∷◌, ◌++◌, length, Option, Some, None, Result, Ok, Err, append_assoc}
 use Rattle.std.specs.Prelude.{is_some, if◌then◌else◌}
 use Rattle.std.specs.Option.{option_map, option_or}
 use Rattle.std.proofs.lemmas.List.{append-nil}
@@ -18,7 +18,7 @@ use Rattle.message_reader.specs.ReaderParts.{ReaderParts}
 use Rattle.message_reader.specs.Roles.{reader_of}
 use Rattle.message_reader.specs.Representation.{Represents}
 use Rattle.message_reader.specs.Steps.{bad_frame}
-use Rattle.message_reader.specs.Endings.{before_end, ending, Outcome, Stopped, Failed, outcome, IsFront}
+use Rattle.message_reader.specs.Endings.{before_end, ending, Outcome, Stopped, Failed, outcome}
 use Rattle.message_reader.proofs.Endings.{ending-append, before_end-append, before_end-all}
 use Rattle.message_reader.proofs.Completing.{Completes, unfed}
 use Rattle.message_reader.proofs.Consuming as reading
@@ -29,9 +29,9 @@ use Rattle.client_core.specs.declared.client.ClientCore.{ClientCore}
 use Rattle.client_core.specs.declared.stop.Stop.{Stop}
 use Rattle.client_core.specs.declared.stop.Stop.TheVariants as stop
 use Rattle.client_core.specs.Ends.{stop_of, end_for, end_by, heard_of, end_of, IsHeard}
-use Rattle.client_core.specs.Clients.{Client, while_going, hear, hear_all, fed, inbox_with, bad_in, fails, got}
+use Rattle.client_core.specs.Clients.{Client, while_going, hear_all, fed, inbox_with, bad_in, fails, got}
 use Rattle.client_core.specs.Happenings.{injecting}
-use Rattle.client_core.specs.Kept.{Kept, Stands, Breaks, Gets, ClearsLines, lines_in, out_of_memory}
+use Rattle.client_core.specs.Kept.{Kept, Stands, Gets, ClearsLines, lines_in, out_of_memory}
 use Rattle.client_core.specs.Injecting.{injected, Injects, Grows}
 use Rattle.client_core.proofs.Clients.{hear_is, over, left_of}
 

@@ -1,9 +1,9 @@
 -- The bytes of whole clipboards are those that came.
-use Rattle.std.proofs.Common.{ℕ, ◌^◌, ◌<◌, Bool, true, false, cond, List, [], ◌∷◌, ◌++◌, length, Option, Some, None}
+use Rattle.std.proofs.Common.{ℕ, Bool, true, false, cond, List, [], ◌∷◌, ◌++◌, length, Option, Some, None}
 use Rattle.std.specs.Prelude.{IfSome, if◌then◌else◌, ◌&&◌, ◌==◌, nat_le, codes}
 use Rattle.std.specs.List.{AllByRecursion}
 use Rattle.std.specs.Int.{w32, to_be_bytes}
-use Rattle.std.proofs.Common.{◌≡◌, ◌+◌, subst}
+use Rattle.std.proofs.Common.{◌+◌}
 use Rattle.share_base.specs.declared.clip_id.ClipId.{ClipId}
 use Rattle.share_base.specs.Clips.{clip_number}
 use Rattle.message_codec.specs.declared.clip_mark.ClipMark.{ClipMark}
@@ -15,7 +15,7 @@ use Rattle.message_codec.specs.Spelling.{body_of}
 use Rattle.message_codec.specs.Streams.{AreBytes, frame_of, frames_of}
 use Rattle.clip_chunks.specs.declared.run.Run.{Run}
 use Rattle.clip_chunks.specs.Parts.{Part, part, same_clip, of_clip}
-use Rattle.clip_chunks.specs.OpenRuns.{opens, goes_on, run_after, open_run, closes, whole_by, whole_at}
+use Rattle.clip_chunks.specs.OpenRuns.{opens, goes_on, run_after, open_run, closes, whole_at}
 use Rattle.clip_chunks.specs.Wholes.{size_of}
 use Rattle.message_reader.proofs.Stepping.{bytes-append}
 

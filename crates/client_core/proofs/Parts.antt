@@ -1,5 +1,5 @@
 -- Parts of clipboards, as a printer's clipboards take them.
-use Rattle.std.proofs.Common.{◌≡◌, ◌∙◌, ap, sym, refl, ℕ, ◌+◌, ◌*◌, ◌≤◌, Bool, true, false, List, [], ◌∷◌, length, Option, Some, None, arith}
+use Rattle.std.proofs.Common.{◌≡◌, ◌∙◌, ap, ℕ, ◌+◌, ◌*◌, ◌≤◌, Bool, true, false, List, length, Option, Some, None, arith}
 use Rattle.std.specs.Prelude.{IfSome, if◌then◌else◌, ◌==◌, ◌&&◌}
 use Rattle.std.proofs.lemmas.Option.{same_Some}
 use Rattle.share_base.specs.declared.clip_id.ClipId.{ClipId}
@@ -8,13 +8,13 @@ use Rattle.message_codec.specs.declared.clip_mark.ClipMark.{ClipMark}
 use Rattle.message_codec.specs.declared.clip_mark.ClipMark.TheVariants as mark
 use Rattle.clip_chunks.specs.declared.run.Run.{Run}
 use Rattle.clip_chunks.specs.declared.took.Took.{Took}
-use Rattle.clip_chunks.specs.Parts.{Part, part}
+use Rattle.clip_chunks.specs.Parts.{part}
 use Rattle.clip_chunks.specs.OpenRuns.{closes, whole_by}
-use Rattle.clip_chunks.specs.Assemblies.{Takes, Answers, IsAnswer, answer, bytes_so_far, whole_in}
+use Rattle.clip_chunks.specs.Assemblies.{Takes, Answers, IsAnswer, bytes_so_far, whole_in}
 use Rattle.clip_chunks.proofs.Answered.{answered}
 use Rattle.client_core.specs.declared.clipboards.Clipboards.{Clipboards}
 use Rattle.client_core.specs.declared.clipboards.TheConstants.{CLIP_LIMIT}
-use Rattle.client_core.specs.Clipboards.{AreFor, Brings, assembly_of, room_for}
+use Rattle.client_core.specs.Clipboards.{Brings, assembly_of, room_for}
 
 pub brings_clipboard : (old new : Clipboards) (m : ClipMark) (seq : ℕ) (bytes : List ℕ) (took : Took) → new.selection ≡ old.selection → Takes old.clipboard new.clipboard m seq bytes → Answers old.clipboard m seq bytes took → Brings old new (part m Clipboard seq bytes) (whole_in took)
 brings_clipboard old new m seq bytes took same takes answers = record {

@@ -1,5 +1,5 @@
 -- A client between two messages of its stream, and how each step leaves it.
-use Rattle.std.proofs.Common.{◌≡◌, ℕ, ◌+◌, ◌≤◌, List, [], ◌∷◌, ◌++◌, length, drop, Option, Some, None, Result, Ok, Err, refl, sym, ap, subst, ◌∙◌, append_assoc, arith, inl}
+use Rattle.std.proofs.Common.{◌≡◌, ℕ, ◌≤◌, List, [], ◌∷◌, ◌++◌, length, drop, Option, Some, None, Result, Ok, Err, refl, sym, ap, subst, ◌∙◌, append_assoc, arith, inl}
 use Rattle.std.specs.Prelude.{IsErr}
 use Rattle.std.specs.Option.{option_map}
 use Rattle.share_base.specs.declared.out_of_memory.OutOfMemory.{OutOfMemory}
@@ -8,7 +8,7 @@ use Rattle.std.proofs.lemmas.List.{length-append, append-nil}
 use Rattle.message_codec.specs.declared.messages.Msg.{Msg}
 use Rattle.message_codec.specs.Streams.{AreBytes}
 use Rattle.message_codec.specs.Verdicts.{Verdict}
-use Rattle.message_codec.specs.Inboxes.{Inbox, inbox, HasVerdict}
+use Rattle.message_codec.specs.Inboxes.{inbox, HasVerdict}
 use Rattle.message_codec.proofs.InboxVerdicts.{inbox-verdict}
 use Rattle.message_codec.proofs.OneVerdict.{one_verdict}
 use Rattle.message_reader.specs.declared.reader.BadFrame.{BadFrame}
@@ -17,12 +17,11 @@ use Rattle.message_reader.specs.Roles.{reader_of}
 use Rattle.message_reader.specs.ReaderParts.{ReaderParts}
 use Rattle.message_reader.specs.Representation.{Represents, IsOpen, IsPending}
 use Rattle.message_reader.specs.Steps.{Extends, bad_frame, partial_at, Concludes, GivesMessage, GivesNone}
-use Rattle.message_reader.proofs.Completing.{Completes, represented, partial_is}
+use Rattle.message_reader.proofs.Completing.{represented, partial_is}
 use Rattle.client_core.specs.declared.client_end.ClientEnd.{ClientEnd}
 use Rattle.client_core.specs.declared.client_end.ClientEnd.TheVariants as end
 use Rattle.client_core.specs.declared.client.ClientCore.{ClientCore}
 use Rattle.client_core.specs.declared.hearer.Hearer.{Hearer}
-use Rattle.client_core.specs.declared.printer.Printer.{Printer}
 use Rattle.client_talk.specs.Talks.{Talk}
 use Rattle.client_core.specs.Hearing.{display, fresh}
 use Rattle.client_core.specs.Showing.{Shows, Clears}

@@ -1,5 +1,5 @@
 -- What happens to a client, and what it is after a list of happenings.
-use Rattle.std.specs.Prelude.{ℕ, Bool, List, [], ◌∷◌, ◌++◌, take, fold, Option, Some, None, unwrap_or, if◌then◌else◌}
+use Rattle.std.specs.Prelude.{ℕ, List, [], ◌++◌, take, fold, Option, Some, None, unwrap_or, if◌then◌else◌}
 use Rattle.std.specs.Option.{option_map}
 use Rattle.message_codec.specs.declared.messages.End.TheVariants as ends
 use Rattle.message_reader.specs.declared.role.Role.TheVariants as role

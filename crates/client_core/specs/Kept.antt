@@ -1,9 +1,8 @@
 -- What a client core keeps of its client, and what its calls do to it.
-use Rattle.std.specs.Prelude.{◌≡◌, ℕ, ◌≤◌, List, [], ◌∷◌, ◌++◌, length, drop, Option, Some, None, Result, Ok, Err}
+use Rattle.std.specs.Prelude.{◌≡◌, ℕ, ◌≤◌, List, ◌++◌, length, drop, Option, Some, None, Result, Ok, Err}
 use Rattle.std.specs.List.{flat_map}
 use Rattle.share_base.specs.declared.out_of_memory.OutOfMemory.{OutOfMemory}
 use Rattle.message_codec.specs.declared.messages.Msg.{Msg}
-use Rattle.message_codec.specs.Inboxes.{Inbox}
 use Rattle.message_codec.specs.Verdicts.{Verdict}
 use Rattle.message_reader.specs.declared.role.Role.{Role}
 use Rattle.message_reader.specs.Roles.{reader_of}

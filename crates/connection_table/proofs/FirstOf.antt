@@ -1,5 +1,5 @@
 -- A write at the first place that passes a test.
-use Rattle.std.specs.Prelude.{◌≡◌, refl, ℕ, ◌+◌, ◌<◌, ◌≤◌, nat_lt, suc, Bool, true, false, not, cond, List, [], ◌∷◌, length, MatchBool, Option, Some, None}
+use Rattle.std.specs.Prelude.{◌≡◌, refl, ℕ, ◌+◌, ◌<◌, ◌≤◌, nat_lt, suc, Bool, true, false, not, cond, List, [], ◌∷◌, length, MatchBool, Some, None}
 use Rattle.std.specs.List.{find, position_or_len, position}
 use Rattle.std.proofs.Common.{arith, sym, ap, ◌∙◌, subst, get_or, set}
 use Rattle.std.proofs.lemmas.Bool.Decides.{nat_tests}

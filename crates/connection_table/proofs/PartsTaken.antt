@@ -1,12 +1,8 @@
 -- A part of one clipboard, and the other clipboard beside it.
-use Rattle.std.specs.Prelude.{◌≡◌, refl, ℕ, List, ◌∷◌}
-use Rattle.std.proofs.Common.{sym, subst}
-use Rattle.share_base.specs.declared.clip_id.ClipId.{ClipId}
+use Rattle.std.specs.Prelude.{refl, ℕ, List}
 use Rattle.share_base.specs.declared.clip_id.ClipId.TheVariants.{Clipboard, Selection}
 use Rattle.message_codec.specs.declared.clip_mark.ClipMark.{ClipMark}
 use Rattle.clip_chunks.specs.declared.took.Took.{Took}
-use Rattle.clip_chunks.specs.Parts.{Part, part}
-use Rattle.clip_chunks.specs.Assemblies as assemblies
 use Rattle.clip_chunks.specs.Assemblies.{AssemblyParts, Answers, Takes, whole_in}
 use Rattle.connection_table.specs.declared.connection.Connection.{Connection}
 use Rattle.connection_table.specs.PartsTaken.{TakesPart}

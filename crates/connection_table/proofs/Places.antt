@@ -1,5 +1,5 @@
 -- Connections that are kept one by one, at a place.
-use Rattle.std.specs.Prelude.{◌≡◌, refl, ℕ, ◌+◌, ◌<◌, zero, suc, List, [], ◌∷◌, ◌++◌, length, take, drop}
+use Rattle.std.specs.Prelude.{◌≡◌, refl, ℕ, ◌+◌, ◌<◌, zero, suc, List, [], ◌∷◌, ◌++◌, length, take}
 use Rattle.std.proofs.Common.{arith, sym, ap, subst, get_or, add-one}
 use Rattle.machine.specs.Connections.{Connection}
 use Rattle.connection_table.specs.declared.connection.Connection as kept

@@ -1,5 +1,5 @@
 -- A piece that was read, in the machine's connections.
-use Rattle.std.specs.Prelude.{◌≡◌, refl, ℕ, ◌==◌, Bool, true, false, ◌||◌, cond, List, [], ◌∷◌, ◌++◌, MatchBool, Option, Some, None}
+use Rattle.std.specs.Prelude.{◌≡◌, refl, ℕ, ◌==◌, Bool, true, false, ◌||◌, cond, List, [], ◌∷◌, ◌++◌, MatchBool, Option, Some}
 use Rattle.std.specs.List.{find, list_any}
 use Rattle.std.specs.Option.{option_map_or}
 use Rattle.std.proofs.Common.{arith, sym, ap, ◌∙◌, subst}
@@ -12,7 +12,7 @@ use Rattle.message_reader.specs.ReaderParts.{ReaderParts}
 use Rattle.message_reader.specs.Steps.{Concludes, GivesNone}
 use Rattle.machine.specs.Connections.{Connection, has_serial, is_live, changed}
 use Rattle.machine.specs.Steps.{receives}
-use Rattle.machine.proofs.Finding.{none_some, some_is, found-passes}
+use Rattle.machine.proofs.Finding.{found-passes}
 use Rattle.machine.proofs.Live.{lives_as}
 use Rattle.connection_table.specs.declared.connection.Connection as kept
 use Rattle.connection_table.specs.declared.reading.Reading.{Reading}

@@ -1,9 +1,9 @@
 -- Connections of which one was removed.
-use Rattle.std.specs.Prelude.{◌≡◌, refl, ℕ, ◌<◌, ◌==◌, Bool, true, false, not, cond, List, [], ◌∷◌, filter}
-use Rattle.std.proofs.Common.{arith, ap, subst}
-use Rattle.machine.specs.Connections.{Connection, has_serial, removed}
+use Rattle.std.specs.Prelude.{◌≡◌, ℕ, ◌<◌, ◌==◌, Bool, true, false, not, cond, List, [], ◌∷◌}
+use Rattle.std.proofs.Common.{arith, ap}
+use Rattle.machine.specs.Connections.{Connection, removed}
 use Rattle.connection_table.specs.declared.connection.Connection as kept
-use Rattle.connection_table.specs.Tables.{is_of, without}
+use Rattle.connection_table.specs.Tables.{without}
 use Rattle.connection_table.specs.Standing.{Surroundings, StandsFor, Pairs, AreFor}
 
 -- from a lower serial

@@ -1,13 +1,9 @@
 -- What each call of a table keeps of the machine's connections.
-use Rattle.std.specs.Prelude.{◌≡◌, refl, ℕ, ◌+◌, ◌==◌, Bool, true, false, not, ◌||◌, List, [], ◌∷◌, ◌++◌, Option, Some, None, unwrap_or}
+use Rattle.std.specs.Prelude.{◌≡◌, refl, ℕ, ◌+◌, ◌==◌, Bool, true, false, not, ◌||◌, List, [], ◌∷◌, ◌++◌, Option, unwrap_or}
 use Rattle.std.specs.List.{find}
 use Rattle.std.specs.Option.{option_map, option_map_or}
 use Rattle.std.proofs.Common.{arith, sym, ap, ◌∙◌, subst}
 use Rattle.message_codec.specs.declared.messages.Msg.{Msg}
-use Rattle.message_reader.specs.declared.role.Role.TheVariants as role
-use Rattle.message_reader.specs.Representation.{Represents}
-use Rattle.share_base.specs.declared.clip_id.ClipId.TheVariants.{Clipboard, Selection}
-use Rattle.clip_chunks.specs.Assemblies as assemblies
 use Rattle.hello_states.specs.declared.part_cause.PartCause.{PartCause}
 use Rattle.hello_states.specs.Causes.{drops_queue}
 use Rattle.hello_states.specs.Handshake.{parting_for}
@@ -16,13 +12,11 @@ use Rattle.machine.specs.Targets.{Entry, Origin, Target, Primary, Client, same_t
 use Rattle.machine.specs.Connections.{Connection, has_serial, is_live, changed}
 use Rattle.machine.specs.Partings.{parted}
 use Rattle.machine.specs.Steps.{drops, takes}
-use Rattle.machine.proofs.Finding.{none_some}
-use Rattle.send_queue.specs.QueueParts.{QueueParts}
 use Rattle.send_queue.specs.Standing as queues
 use Rattle.send_queue.specs.Calls.{entry_of}
 use Rattle.send_queue.proofs.Standing.{other-targets}
 use Rattle.connection_table.specs.declared.connection.Connection as kept
-use Rattle.connection_table.specs.PhaseOf.{phase_of, parted_phase}
+use Rattle.connection_table.specs.PhaseOf.{parted_phase}
 use Rattle.connection_table.specs.Calls.{Sends, Parts, Drops, Takes}
 use Rattle.connection_table.specs.Tables.{ChangesAt}
 use Rattle.connection_table.specs.Standing.{Surroundings, told, StandsFor, AreFor}

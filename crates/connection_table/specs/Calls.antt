@@ -1,5 +1,5 @@
 -- What a call does to one connection.
-use Rattle.std.specs.Prelude.{◌≡◌, ℕ, Bool, true, false, ◌||◌, List, [], None, Option}
+use Rattle.std.specs.Prelude.{◌≡◌, ℕ, false, ◌||◌, List, [], None}
 use Rattle.message_codec.specs.declared.messages.Msg.{Msg}
 use Rattle.message_reader.specs.declared.role.Role.TheVariants as role
 use Rattle.message_reader.specs.Representation.{Represents}

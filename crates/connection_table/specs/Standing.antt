@@ -1,5 +1,5 @@
 -- Which of the machine's connections the server keeps.
-use Rattle.std.specs.Prelude.{◌≡◌, ℕ, ◌<◌, Bool, true, false, not, List, [], ◌∷◌, ◌++◌, Option, Some, None}
+use Rattle.std.specs.Prelude.{◌≡◌, ℕ, ◌<◌, true, false, List, [], ◌∷◌, ◌++◌, Option, Some, None}
 use Rattle.share_base.specs.declared.clip_id.ClipId.TheVariants.{Clipboard, Selection}
 use Rattle.message_codec.specs.declared.messages.Msg.{Msg}
 use Rattle.message_reader.specs.declared.role.Role.TheVariants as role

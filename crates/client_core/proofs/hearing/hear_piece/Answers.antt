@@ -1,4 +1,4 @@
-use Rattle.std.proofs.Common.{Some, None, arith, ◌∙◌, subst, sym}
+use Rattle.std.proofs.Common.{Some, None, arith, ◌∙◌}
 use Rattle.client_core.proofs.Streams.{hearing_fed, hearing_one, takes_unfed, takes_broken, takes_broken_at, takes_end, takes_stop}
 use Rattle.client_core.proofs.hearing.hear_piece.Goals as goal
 

@@ -1,5 +1,5 @@
 use Rattle.std.proofs.Common.{rules}
-use Rattle.client_core.proofs.Hearers.{applies_none, applies_some}
+use Rattle.client_core.proofs.Hearers.{applies_none}
 use Rattle.client_core.proofs.hearer.Hearer.hear.Goals as goal
 
 pub returns-in-None : goal.returns-in-None
