@@ -21,7 +21,7 @@ pub struct Summary {
     pub frames: u64,
     /// How many bytes were queued for all connections.
     pub queued: u64,
-    /// How many of these bytes the connections sink_with.
+    /// How many of these bytes the connections took.
     pub taken: u64,
 }
 
