@@ -17,6 +17,11 @@ pub record Serves (front : List ℕ) (core : ServerCore) (s : State) : Type 0 wh
   pub rests : Rests beside
   pub stands : Stands beside core s
 
+-- from each state between two happenings by that rule
+abbrev pub LeadsServing : ServerCore → ServerCore → (State → State) → Type 0
+LeadsServing old new rule =
+    (front : List ℕ) (s : State) → Serves front old s → Serves front new (rule s)
+
 -- at a run's end, when the active screen may be gone
 pub record Departs (front : List ℕ) (core : ServerCore) (s : State) : Type 0 where
   pub beside : Beside

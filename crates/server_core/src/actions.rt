@@ -9,8 +9,8 @@ ghost use Rattle.machine.specs.Screens as screens;
 ghost use Rattle.machine.specs.Routing.{route};
 ghost use Rattle.machine.specs.Actions as actions;
 ghost use Rattle.machine.specs.Actions.{may_switch};
-ghost use Rattle.server_core.specs.Targets.{meant, IsThere};
-ghost use Rattle.server_core.specs.Leading.{Leads, LeadsWhere, Reads};
+ghost use Rattle.server_core.specs.Targets.{meant};
+ghost use Rattle.server_core.specs.Leading.{Leads, LeadsAt, Reads};
 
 use crate::server::ServerCore;
 use crate::target::Target;
@@ -146,7 +146,7 @@ impl ServerCore {
 
     // Enters a target that is there at the middle of its screen, if it isn't active.
     fn switch_to(&mut self, target: Target) -> Result<(), OutOfMemory>
-        ensures { OnOk result ((o : Origin) → LeadsWhere (λ s. IsThere s (meant target))
+        ensures { OnOk result ((o : Origin) → LeadsAt (meant target)
             self.old self.new (actions.switch_to o (meant target))) }
     {
         if !self.may_switch() {

@@ -5,8 +5,8 @@ ghost use Rattle.clip_chunks.specs.Parts.{part, message_of};
 ghost use Rattle.machine.specs.Targets.{Client, Own};
 ghost use Rattle.machine.specs.Routing as routing;
 ghost use Rattle.machine.specs.Clipboards as clipboards;
-ghost use Rattle.server_core.specs.Targets.{meant, IsThere};
-ghost use Rattle.server_core.specs.Leading.{Leads, LeadsWhere};
+ghost use Rattle.server_core.specs.Targets.{meant};
+ghost use Rattle.server_core.specs.Leading.{Leads, LeadsAt};
 ghost use Rattle.server_core.specs.Sending.{tell_chunks};
 ghost use Rattle.server_core.specs.HandingOut.{HandsOut};
 
@@ -62,7 +62,7 @@ impl ServerCore {
         bytes: &[u8],
         target: Target,
     ) -> Result<(), OutOfMemory>
-        ensures { OnOk result (LeadsWhere (λ s. IsThere s (meant target)) self.old self.new
+        ensures { OnOk result (LeadsAt (meant target) self.old self.new
             (clipboards.give clip bytes.now (meant target))) }
     {
         match target {
@@ -85,7 +85,7 @@ impl ServerCore {
         clip: ClipId,
         bytes: &[u8],
     ) -> Result<(), OutOfMemory>
-        ensures { OnOk result (LeadsWhere (λ s. IsThere s (Client serial)) self.old self.new
+        ensures { OnOk result (LeadsAt (Client serial) self.old self.new
             (clipboards.give clip bytes.now (Client serial))) }
     {
         let mut buffer = Buffer::new();
@@ -104,7 +104,7 @@ impl ServerCore {
         clip: ClipId,
         bytes: &[u8],
     ) -> Result<(), OutOfMemory>
-        ensures { OnOk result (LeadsWhere (λ s. IsThere s (Client serial)) self.old self.new
+        ensures { OnOk result (LeadsAt (Client serial) self.old self.new
             (tell_chunks clip serial bytes.now)) }
     {
         for chunk in bytes.chunks(CHUNK_LEN) {
@@ -122,7 +122,7 @@ impl ServerCore {
         bytes: &[u8],
     ) -> Result<(), OutOfMemory>
         requires { length bytes.now ≤ 32768 }
-        ensures { OnOk result (LeadsWhere (λ s. IsThere s (Client serial)) self.old self.new
+        ensures { OnOk result (LeadsAt (Client serial) self.old self.new
             (routing.route Own (Client serial) (message_of (part mark clip 0 bytes.now)))) }
     {
         let mut data = Octets::new(self.config.alloc());

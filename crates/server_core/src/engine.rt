@@ -28,8 +28,7 @@ impl Engine for ServerCore {
     /// every later step answers `OutOfMemory`.
     fn step(&mut self, happening: Happening<'_>) -> Result<(), OutOfMemory>
         ensures steps { OnOk result (Steps serves_in self.old self.new (meaning happening.entry)) }
-        ensures laws { OnOk result
-            (GoesOnRunning (meaning happening.entry) self.old self.new) }
+        ensures laws { OnOk result (GoesOnRunning (meaning happening.entry) self.old self.new) }
         ensures whole { OnOk result (self.old.is_broken ≡ false) }
         ensures still { OnOk result (self.new.is_broken ≡ false) }
         ensures broken { OnErr result (self.new.is_broken ≡ true) }

@@ -1,6 +1,6 @@
 //! The switch gate: what it is asked, and what it does when its wait is over.
 
-ghost use Rattle.std.specs.Prelude.{◌≡◌, OnOk};
+ghost use Rattle.std.specs.Prelude.{OnOk};
 ghost use Rattle.std.specs.Option.{option_map};
 ghost use Rattle.machine.specs.GateCalls as calls;
 ghost use Rattle.machine.specs.Timers as timers;

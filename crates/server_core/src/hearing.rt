@@ -1,10 +1,10 @@
 //! What a message of a client does, by the phase of its connection.
 
-ghost use Rattle.std.specs.Prelude.{◌≡◌, ◌<◌, true, None, OnOk};
+ghost use Rattle.std.specs.Prelude.{◌≡◌, ◌<◌, None, OnOk};
 ghost use Rattle.clip_chunks.specs.Parts as parts;
 ghost use Rattle.machine.specs.Screens as screens;
 ghost use Rattle.machine.specs.Hearing as hearing;
-ghost use Rattle.server_core.specs.Leading.{Leads, LeadsWhere};
+ghost use Rattle.server_core.specs.Leading.{Leads, LeadsLiving};
 ghost use Rattle.server_core.specs.Hearing.{info_of, LeadsGreeting, LeadsAsked, LeadsJoined, LeadsHeard};
 
 use crate::server::ServerCore;
@@ -91,8 +91,7 @@ impl ServerCore {
     }
 
     fn count_heard(&mut self, serial: u64)
-        ensures { Leads self.old self.new
-            (λ s. screens.change serial (hearing.was_heard s.at) s) }
+        ensures { Leads self.old self.new (λ s. screens.change serial (hearing.was_heard s.at) s) }
     {
         self.table.hear(serial, self.at.moment());
     }
@@ -144,7 +143,7 @@ impl ServerCore {
         mark: ClipMark,
         bytes: &[u8],
     ) -> Result<(), OutOfMemory>
-        ensures { OnOk result (LeadsWhere (λ s. screens.lives s serial ≡ true) self.old self.new
+        ensures { OnOk result (LeadsLiving serial self.old self.new
             (hearing.hear_part (parts.part mark clip seq bytes.now) serial)) }
     {
         let whole = self.table.take_part(serial, clip, seq, mark, bytes)?;

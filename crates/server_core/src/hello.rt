@@ -59,8 +59,7 @@ impl ServerCore {
     /// Returns the screens that are used: the primary, and those of all connections that were asked
     /// or are joined.
     pub(crate) fn used_screens(&self) -> ScreenSet
-        ensures { (screen : ℕ) → Reads self.now (has result screen)
-            (λ s. hello.is_used s screen) }
+        ensures { (screen : ℕ) → Reads self.now (has result screen) (λ s. hello.is_used s screen) }
     {
         let mut screens = ScreenSet::new();
         screens.insert(self.primary_screen());

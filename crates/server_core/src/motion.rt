@@ -1,6 +1,6 @@
 //! Motions of the mouse: the cursor moves on its screen, or goes to another one.
 
-ghost use Rattle.std.specs.Prelude.{◌≡◌, ℕ, OnOk};
+ghost use Rattle.std.specs.Prelude.{ℕ, OnOk};
 ghost use Rattle.machine.specs.Routes as routes;
 ghost use Rattle.machine.specs.Events as events;
 ghost use Rattle.screen_crossing.specs.Points.{point_of};
@@ -52,8 +52,7 @@ impl ServerCore {
     /// Moves the cursor: through the first way out that leads to its new point if the gate lets it
     /// pass, and else as near to that point as it may go on its screen.
     fn move_cursor(&mut self, dx: i16, dy: i16) -> Result<(), OutOfMemory>
-        ensures { OnOk result ((number : ℕ) → Leads self.old self.new
-            (events.move number dx dy)) }
+        ensures { OnOk result ((number : ℕ) → Leads self.old self.new (events.move number dx dy)) }
     {
         let point = self.cursor.point().moved(dx, dy);
         let Some(way) = self.first_way(point) else {

@@ -1,13 +1,12 @@
 //! Partings, and the loss of a screen where its connection parts.
 
-ghost use Rattle.std.specs.Prelude.{◌≡◌, true, OnOk};
-ghost use Rattle.machine.specs.Screens as screens;
+ghost use Rattle.std.specs.Prelude.{OnOk};
 ghost use Rattle.machine.specs.Partings as partings;
 ghost use Rattle.machine.specs.Targets.{Client, same_target};
 ghost use Rattle.machine.specs.Combining.{when};
 ghost use Rattle.machine.specs.Switching as switching;
 ghost use Rattle.machine.specs.Clipboards as clipboards;
-ghost use Rattle.server_core.specs.Leading.{Leads, LeadsWhere};
+ghost use Rattle.server_core.specs.Leading.{Leads, LeadsLiving};
 
 use crate::server::ServerCore;
 use crate::target::Target;
@@ -17,7 +16,7 @@ use share_base::{OutOfMemory, ScreenNo};
 impl ServerCore {
     /// Queues the message that the cause has for a connection that lives.
     pub(crate) fn say_farewell(&mut self, cause: PartCause, serial: u64) -> Result<(), OutOfMemory>
-        ensures { OnOk result (LeadsWhere (λ s. screens.lives s serial ≡ true) self.old self.new
+        ensures { OnOk result (LeadsLiving serial self.old self.new
             (partings.say_farewell cause serial)) }
     {
         let Some(message) = cause.farewell() else {
@@ -29,7 +28,7 @@ impl ServerCore {
 
     /// Parts a connection that lives, and logs it.
     pub(crate) fn mark(&mut self, cause: PartCause, serial: u64) -> Result<(), OutOfMemory>
-        ensures { OnOk result (LeadsWhere (λ s. screens.lives s serial ≡ true) self.old self.new
+        ensures { OnOk result (LeadsLiving serial self.old self.new
             (partings.marked cause serial)) }
     {
         let now = self.at.moment();
@@ -48,8 +47,7 @@ impl ServerCore {
     /// Parts a connection that isn't parting yet, for that cause: its farewell, if any, is queued,
     /// and what it was joined as is lost.
     pub(crate) fn part(&mut self, cause: PartCause, serial: u64) -> Result<(), OutOfMemory>
-        ensures { OnOk result (LeadsWhere (λ s. screens.lives s serial ≡ true) self.old self.new
-            (partings.part cause serial)) }
+        ensures { OnOk result (LeadsLiving serial self.old self.new (partings.part cause serial)) }
     {
         let joined = self.screen_joined(serial);
         self.say_farewell(cause, serial)?;

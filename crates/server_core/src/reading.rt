@@ -1,13 +1,13 @@
 //! The bytes of clients: a piece is read, the messages that it ends are heard one by one, and a bad
 //! frame after them parts the connection.
 
-ghost use Rattle.std.specs.Prelude.{◌≡◌, ◌+◌, ◌≤◌, ◌<◌, ◌^◌, ℕ, List, length, OnOk};
+ghost use Rattle.std.specs.Prelude.{◌+◌, ◌≤◌, ◌<◌, ◌^◌, ℕ, List, length, OnOk};
 ghost use Rattle.machine.specs.States.{State};
 ghost use Rattle.machine.specs.Combining.{for_each};
 ghost use Rattle.machine.specs.Hearing as hearing;
 ghost use Rattle.machine.specs.Steps as steps;
 ghost use Rattle.server_core.specs.Leading.{Leads};
-ghost use Rattle.server_core.specs.Serving.{Serves};
+ghost use Rattle.server_core.specs.Serving.{LeadsServing, Serves};
 ghost use Rattle.server_core.specs.Receiving.{given_by, more_at};
 
 use crate::server::ServerCore;
@@ -20,8 +20,7 @@ impl ServerCore {
     /// heard.
     pub(crate) fn got(&mut self, serial: u64, piece: &[u8]) -> Result<(), OutOfMemory>
         requires { given_by self.old serial + length piece.now < 2 ^ 63 }
-        ensures serves { OnOk result ((front : List ℕ) (s : State) → Serves front self.old s
-            → Serves front self.new (steps.got serial piece.now s)) }
+        ensures serves { OnOk result (LeadsServing self.old self.new (steps.got serial piece.now)) }
         ensures grows { OnOk result ((front : List ℕ) (s : State) → Serves front self.old s
             → (n : ℕ)
             → given_by self.new n ≤ given_by self.old n + more_at serial (length piece.now) n) }

@@ -5,8 +5,8 @@ ghost use Rattle.message_codec.specs.Spelling.{body_of};
 ghost use Rattle.wire_frames.specs.declared.limits.TheConstants.{BODY_LIMIT};
 ghost use Rattle.machine.specs.Targets.{Origin, Primary, Client};
 ghost use Rattle.machine.specs.Routing.{route};
-ghost use Rattle.server_core.specs.Targets.{meant, IsThere};
-ghost use Rattle.server_core.specs.Leading.{LeadsWhere};
+ghost use Rattle.server_core.specs.Targets.{meant};
+ghost use Rattle.server_core.specs.Leading.{LeadsAt};
 
 use crate::server::ServerCore;
 use crate::target::Target;
@@ -19,7 +19,7 @@ impl ServerCore {
     pub(crate) fn route(&mut self, target: Target, message: &Msg) -> Result<(), OutOfMemory>
         requires { length (body_of message.now) ≤ BODY_LIMIT }
         ensures { OnOk result
-            ((origin : Origin) → LeadsWhere (λ s. IsThere s (meant target)) self.old self.new
+            ((origin : Origin) → LeadsAt (meant target) self.old self.new
             (route origin (meant target) message.now)) }
     {
         match target {
@@ -30,7 +30,7 @@ impl ServerCore {
 
     fn tell_primary(&mut self, message: &Msg) -> Result<(), OutOfMemory>
         ensures { OnOk result
-            ((origin : Origin) → LeadsWhere (λ s. IsThere s Primary) self.old self.new
+            ((origin : Origin) → LeadsAt Primary self.old self.new
             (route origin Primary message.now)) }
     {
         self.primary.told(message, &mut self.log)?;
@@ -40,7 +40,7 @@ impl ServerCore {
     fn send(&mut self, serial: u64, message: &Msg) -> Result<(), OutOfMemory>
         requires { length (body_of message.now) ≤ BODY_LIMIT }
         ensures { OnOk result
-            ((origin : Origin) → LeadsWhere (λ s. IsThere s (Client serial)) self.old self.new
+            ((origin : Origin) → LeadsAt (Client serial) self.old self.new
             (route origin (Client serial) message.now)) }
     {
         self.table.send(serial, message)?;

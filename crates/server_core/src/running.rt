@@ -1,6 +1,6 @@
 //! Lines of the script, one after another.
 
-ghost use Rattle.std.specs.Prelude.{◌≡◌, ◌<◌, ◌≤◌, ℕ, List, ◌∷◌, Some, slice_get, length, OnOk};
+ghost use Rattle.std.specs.Prelude.{◌≡◌, ◌<◌, ℕ, List, ◌∷◌, Some, slice_get, length, OnOk};
 ghost use Rattle.std.specs.Option.{option_to_list};
 ghost use Rattle.script_screen.specs.declared.script.ScriptLine.{ScriptLine as Text};
 ghost use Rattle.machine.specs.Scripts.{Line};

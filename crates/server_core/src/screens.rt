@@ -1,6 +1,6 @@
 //! Which connections are there, which screens are joined, who has them, and what shape they have.
 
-ghost use Rattle.std.specs.Prelude.{◌≡◌, ◌<◌, IfSome};
+ghost use Rattle.std.specs.Prelude.{◌<◌, IfSome};
 ghost use Rattle.std.specs.Option.{option_map};
 ghost use Rattle.share_base.specs.Shapes.{IsScreenShape};
 ghost use Rattle.machine.specs.Targets.{Client, same_target};

@@ -1,12 +1,11 @@
 //! What a happening leads to.
 
-ghost use Rattle.std.specs.Prelude.{◌≡◌, ◌+◌, ◌≤◌, ◌^◌, ℕ, List, length, OnOk};
-ghost use Rattle.machine.specs.States.{State};
+ghost use Rattle.std.specs.Prelude.{◌≡◌, ◌≤◌, ◌^◌, length, OnOk};
 ghost use Rattle.machine.specs.Screens.{change};
 ghost use Rattle.machine.specs.Steps as steps;
 ghost use Rattle.server_engine.specs.Engines.{meaning, Steps};
 ghost use Rattle.server_core.specs.Leading.{Leads};
-ghost use Rattle.server_core.specs.Serving.{Serves};
+ghost use Rattle.server_core.specs.Serving.{LeadsServing};
 ghost use Rattle.server_core.specs.Receiving.{given_by};
 ghost use Rattle.server_core.specs.Taking.{queued_in};
 ghost use Rattle.server_core.specs.Driving.{serves_in};
@@ -52,8 +51,7 @@ impl ServerCore {
     // Hears the next piece of the bytes of a connection. `OutOfMemory` comes also where it would
     // have given 2^63 bytes.
     fn get(&mut self, serial: u64, piece: &[u8]) -> Result<(), OutOfMemory>
-        ensures { OnOk result ((front : List ℕ) (s : State) → Serves front self.old s
-            → Serves front self.new (steps.got serial piece.now s)) }
+        ensures { OnOk result (LeadsServing self.old self.new (steps.got serial piece.now)) }
     {
         if self.given(serial) >= GIVEN_LIMIT - piece.len() as u64 {
             return Err(OutOfMemory);

@@ -4,8 +4,8 @@ ghost use Rattle.std.specs.Prelude.{◌≡◌, ◌≤ℤ◌, pos, negsuc, OnOk};
 ghost use Rattle.machine.specs.Targets.{Origin};
 ghost use Rattle.machine.specs.Switching as switching;
 ghost use Rattle.screen_crossing.specs.Points.{point_of, IsPixel};
-ghost use Rattle.server_core.specs.Targets.{meant, IsThere};
-ghost use Rattle.server_core.specs.Leading.{Leads, LeadsWhere};
+ghost use Rattle.server_core.specs.Targets.{meant};
+ghost use Rattle.server_core.specs.Leading.{Leads, LeadsAt};
 
 use crate::cursor::Cursor;
 use crate::server::ServerCore;
@@ -36,7 +36,7 @@ impl ServerCore {
     /// and tells it so.
     pub(crate) fn tell_entering(&mut self, to: Target, point: Point) -> Result<(), OutOfMemory>
         requires { IsPixel point }
-        ensures { OnOk result ((o : Origin) → LeadsWhere (λ s. IsThere s (meant to))
+        ensures { OnOk result ((o : Origin) → LeadsAt (meant to)
             self.old self.new (switching.tell_entering o (meant to) (point_of point))) }
     {
         let message = Msg::Enter {
@@ -54,7 +54,7 @@ impl ServerCore {
     /// and resets the gate.
     pub(crate) fn move_to(&mut self, to: Target, point: Point)
         requires { IsPixel point }
-        ensures { LeadsWhere (λ s. IsThere s (meant to)) self.old self.new
+        ensures { LeadsAt (meant to) self.old self.new
             (switching.at_screen (meant to) (point_of point)) }
     {
         self.active = to;
@@ -67,7 +67,7 @@ impl ServerCore {
     /// is told so, and then sent the clipboards for which it is dirty.
     pub(crate) fn enter(&mut self, to: Target, point: Point) -> Result<(), OutOfMemory>
         requires { IsPixel point }
-        ensures { OnOk result ((o : Origin) → LeadsWhere (λ s. IsThere s (meant to))
+        ensures { OnOk result ((o : Origin) → LeadsAt (meant to)
             self.old self.new (switching.enter o (meant to) (point_of point))) }
     {
         self.tell_entering(to, point)?;
@@ -79,7 +79,7 @@ impl ServerCore {
     /// its screen.
     pub(crate) fn switch(&mut self, to: Target, point: Point) -> Result<(), OutOfMemory>
         requires { IsPixel point }
-        ensures { OnOk result ((o : Origin) → LeadsWhere (λ s. IsThere s (meant to))
+        ensures { OnOk result ((o : Origin) → LeadsAt (meant to)
             self.old self.new (switching.switch o (meant to) (point_of point))) }
     {
         self.tell_leaving()?;

@@ -3,8 +3,7 @@
 ghost use Rattle.std.specs.Prelude.{◌≡◌, true, OnOk};
 ghost use Rattle.machine.specs.Targets.{Client};
 ghost use Rattle.machine.specs.Timers as timers;
-ghost use Rattle.server_core.specs.Targets.{IsThere};
-ghost use Rattle.server_core.specs.Leading.{Leads, LeadsWhere, Reads};
+ghost use Rattle.server_core.specs.Leading.{Leads, LeadsAt, LeadsWhere, Reads};
 ghost use Rattle.server_core.specs.Timing.{has_come, rule_of, for_one, for_place, for_all, serial_at};
 
 use crate::server::ServerCore;
@@ -89,8 +88,7 @@ impl ServerCore {
 
     // Sends a beat to the connection of that serial, and counts it as sent.
     fn beat(&mut self, serial: u64) -> Result<(), OutOfMemory>
-        ensures { OnOk result (LeadsWhere (λ s. IsThere s (Client serial))
-            self.old self.new (timers.beat serial)) }
+        ensures { OnOk result (LeadsAt (Client serial) self.old self.new (timers.beat serial)) }
     {
         let now = self.at.moment();
         self.table.beat(serial, now);

@@ -1,6 +1,6 @@
 //! The ways out of the active screen, and where they lead.
 
-ghost use Rattle.std.specs.Prelude.{◌≡◌, ◌<◌, IfSome, OnOk};
+ghost use Rattle.std.specs.Prelude.{◌<◌, IfSome, OnOk};
 ghost use Rattle.screen_links.specs.Walks.{IsPlace};
 ghost use Rattle.machine.specs.Targets.{Origin};
 ghost use Rattle.machine.specs.Screens.{shape_of};
