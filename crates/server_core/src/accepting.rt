@@ -1,10 +1,8 @@
 //! The acceptance of a connection.
 
 ghost use Rattle.std.specs.Prelude.{OnOk};
-ghost use Rattle.machine.specs.States.{State};
 ghost use Rattle.machine.specs.Acceptance as acceptance;
-ghost use Rattle.server_core.specs.Accepting.{IsNew};
-ghost use Rattle.server_core.specs.Standing.{Beside, Stands, IsBlank};
+ghost use Rattle.server_core.specs.Accepting.{LeadsNew};
 
 use crate::server::ServerCore;
 use crate::target::Target;
@@ -20,8 +18,7 @@ impl ServerCore {
     /// Accepts the connection of a serial that is greater than those of all others, and of which
     /// nothing was heard. Where 64 are open already, it parts at once; else it is greeted.
     pub(crate) fn accept(&mut self, serial: u64) -> Result<(), OutOfMemory>
-        ensures { OnOk result ((b : Beside) (s : State) → IsBlank serial b → IsNew serial s
-            → Stands b self.old s → Stands b self.new (acceptance.accept serial s)) }
+        ensures { OnOk result (LeadsNew serial self.old self.new (acceptance.accept serial)) }
     {
         let count = self.table.as_slice().len();
         self.add_connection(serial)?;
@@ -39,8 +36,7 @@ impl ServerCore {
 
     // Opens the connection of a serial that is greater than those of all others, and logs it.
     fn add_connection(&mut self, serial: u64) -> Result<(), OutOfMemory>
-        ensures { OnOk result ((b : Beside) (s : State) → IsBlank serial b → IsNew serial s
-            → Stands b self.old s → Stands b self.new (acceptance.opened serial s)) }
+        ensures { OnOk result (LeadsNew serial self.old self.new (acceptance.opened serial)) }
     {
         let alloc = self.config.alloc();
         let limit = self.clip_limit();

@@ -1,14 +1,13 @@
 //! The bytes of clients: a piece is read, the messages that it ends are heard one by one, and a bad
 //! frame after them parts the connection.
 
-ghost use Rattle.std.specs.Prelude.{◌+◌, ◌≤◌, ◌<◌, ◌^◌, ℕ, List, length, OnOk};
-ghost use Rattle.machine.specs.States.{State};
+ghost use Rattle.std.specs.Prelude.{◌+◌, ◌<◌, ◌^◌, length, OnOk};
 ghost use Rattle.machine.specs.Combining.{for_each};
 ghost use Rattle.machine.specs.Hearing as hearing;
 ghost use Rattle.machine.specs.Steps as steps;
 ghost use Rattle.server_core.specs.Leading.{Leads};
-ghost use Rattle.server_core.specs.Serving.{LeadsServing, Serves};
-ghost use Rattle.server_core.specs.Receiving.{given_by, more_at};
+ghost use Rattle.server_core.specs.Serving.{GivesMore, LeadsServing};
+ghost use Rattle.server_core.specs.Receiving.{given_by};
 
 use crate::server::ServerCore;
 use message_codec::Msg;
@@ -21,9 +20,7 @@ impl ServerCore {
     pub(crate) fn got(&mut self, serial: u64, piece: &[u8]) -> Result<(), OutOfMemory>
         requires { given_by self.old serial + length piece.now < 2 ^ 63 }
         ensures serves { OnOk result (LeadsServing self.old self.new (steps.got serial piece.now)) }
-        ensures grows { OnOk result ((front : List ℕ) (s : State) → Serves front self.old s
-            → (n : ℕ)
-            → given_by self.new n ≤ given_by self.old n + more_at serial (length piece.now) n) }
+        ensures grows { OnOk result (GivesMore serial (length piece.now) self.old self.new) }
     {
         let Some(connection) = self.table.get(serial) else {
             return Ok(());
