@@ -1,8 +1,7 @@
 -- What the bytes of a stream come to, byte by byte, is the verdict on it.
-use Rattle.std.specs.Prelude.{◌≡◌, refl, ℕ, zero, suc, ◌+◌, ◌-◌, ◌^◌, ◌<◌, ◌≤◌, ◌⊎◌, Bool, true}
+use Rattle.std.specs.Prelude.{◌≡◌, refl, ℕ, ◌+◌, ◌<◌, ◌≤◌, Bool, true}
 use Rattle.std.specs.Prelude.{false, ◌==◌, nat_lt, List, [], ◌∷◌, ◌++◌, length, take, drop, fold}
 use Rattle.std.specs.Prelude.{Option, Some, None, Result, Ok, Err}
-use Rattle.std.specs.List.{AllByRecursion}
 use Rattle.std.specs.Int.{w32, from_be_bytes}
 use Rattle.std.proofs.Common.{arith, sym, ap, ◌∙◌, subst, append_assoc, inl, inr}
 use Rattle.std.proofs.lemmas.Bool.Decides.{nat_tests}
@@ -12,17 +11,16 @@ use Rattle.std.proofs.lemmas.List.{drop_at, take_all, drop_all}
 use Rattle.share_base.specs.declared.reason.Reason.{Reason}
 use Rattle.share_base.specs.declared.reason.Reason.TheVariants as reason
 use Rattle.wire_frames.specs.Framing.{frame, length_field, IsPartial, IsTooLong}
-use Rattle.wire_frames.specs.Steps.{IsFirst}
 use Rattle.wire_frames.proofs.First.{IsBytes, IsBytes-take, front_of}
 use Rattle.message_codec.specs.declared.messages.Msg.{Msg}
 use Rattle.message_codec.specs.declared.faults.BadBody.{BadBody}
 use Rattle.message_codec.specs.declared.faults.BadBody.TheVariants as bad
 use Rattle.message_codec.specs.Spelling.{body_of, Spells}
 use Rattle.message_codec.specs.Reasons.{reason_of}
-use Rattle.message_codec.specs.Streams.{frame_of, frames_of, Reader, IsGood, AllGood, AreBytes}
-use Rattle.message_codec.specs.Verdicts.{IsRefused, IsMisplaced, IsBad, Rests, Verdict}
+use Rattle.message_codec.specs.Streams.{frame_of, frames_of, Reader, AllGood, AreBytes}
+use Rattle.message_codec.specs.Verdicts.{IsRefused, IsBad, Rests, Verdict}
 use Rattle.message_codec.specs.BodyVerdicts.{body_verdict, IsVerdictOn}
-use Rattle.message_codec.specs.Inboxes.{Inbox, empty_inbox, turns_bad, takes_if, takes_body}
+use Rattle.message_codec.specs.Inboxes.{Inbox, empty_inbox, takes_if, takes_body}
 use Rattle.message_codec.specs.Inboxes.{opens_if, limits_if, looks_if, looks, with_byte, inbox}
 use Rattle.message_codec.specs.Inboxes.{HasVerdict}
 use Rattle.message_codec.proofs.Readers.{all-IsBytes, IsBytes-drop}

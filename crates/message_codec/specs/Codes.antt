@@ -12,14 +12,14 @@ abbrev pub hello_of : End → Code
 hello_of ends.Server = code.Hello
 hello_of ends.Client = code.HelloBack
 
--- the codes of four letters, in the table's order
+-- the codes of four letters, the most frequent first; no two of them are the same text
 abbrev pub four_letters : List Code
 four_letters =
-    code.QueryInfo ∷ code.InfoAck ∷ code.ResetOptions ∷ code.Bye ∷ code.Enter ∷ code.Leave
-    ∷ code.Saver ∷ code.SetOptions ∷ code.KeyDown ∷ code.KeyRepeat ∷ code.KeyUp ∷ code.ButtonDown
-    ∷ code.ButtonUp ∷ code.MoveTo ∷ code.MoveBy ∷ code.Wheel ∷ code.BadVersion ∷ code.Busy
-    ∷ code.Unknown ∷ code.Malformed ∷ code.Noop ∷ code.Info ∷ code.Alive ∷ code.Grab ∷ code.ClipPart
-    ∷ code.FilePart ∷ code.DragInfo ∷ []
+    code.MoveTo ∷ code.KeyDown ∷ code.KeyUp ∷ code.MoveBy ∷ code.Wheel ∷ code.ButtonDown
+    ∷ code.ButtonUp ∷ code.KeyRepeat ∷ code.Alive ∷ code.Enter ∷ code.Leave ∷ code.Grab
+    ∷ code.ClipPart ∷ code.Noop ∷ code.Info ∷ code.QueryInfo ∷ code.InfoAck ∷ code.ResetOptions
+    ∷ code.SetOptions ∷ code.Saver ∷ code.Bye ∷ code.BadVersion ∷ code.Busy ∷ code.Unknown
+    ∷ code.Malformed ∷ code.FilePart ∷ code.DragInfo ∷ []
 
 -- the first of these codes that bytes begin with
 abbrev pub first_code : List Code → List ℕ → Option Code
