@@ -5,7 +5,7 @@
 //! memory does, a read and a write answer by exactly these. A read or a write that a signal
 //! interrupted is made again, and is not a fault.
 
-ghost use Rattle.std.specs.Prelude.{◌<◌, length};
+ghost use Rattle.std.specs.Prelude.{◌≡◌, ◌<◌, length};
 ghost use Rattle.share_base.specs.Reading.{FitsRead, Reads};
 ghost use Rattle.share_base.specs.Writing.{FitsWrite, Writes};
 ghost use Rattle.share_base.specs.Stored.{FileGives, FileFaults};
@@ -25,7 +25,10 @@ pub struct StdSource<R: Read + Drop> {
 
 impl<R: Read + Drop> StdSource<R> {
     /// Creates a source that has not failed yet. Does not allocate.
-    pub fn new(reader: R) -> StdSource<R> {
+    pub fn new(reader: R) -> StdSource<R>
+        ensures reader { result.reader ≡ reader }
+        ensures faults { result.faults ≡ 0 }
+    {
         StdSource { reader, faults: 0 }
     }
 }
@@ -62,7 +65,10 @@ pub struct StdSink<W: Write + Drop> {
 
 impl<W: Write + Drop> StdSink<W> {
     /// Creates a sink that has not failed yet. Does not allocate.
-    pub fn new(writer: W) -> StdSink<W> {
+    pub fn new(writer: W) -> StdSink<W>
+        ensures writer { result.writer ≡ writer }
+        ensures faults { result.faults ≡ 0 }
+    {
         StdSink { writer, faults: 0 }
     }
 }
@@ -102,7 +108,10 @@ pub struct StdFiles<'a, R: fs::Files> {
 
 impl<'a, R: fs::Files> StdFiles<'a, R> {
     /// Creates the adapter. Does not allocate; the bytes of a file that is read come from `alloc`.
-    pub fn new(files: &'a R, alloc: Global) -> StdFiles<'a, R> {
+    pub fn new(files: &'a R, alloc: Global) -> StdFiles<'a, R>
+        ensures files { result.files.now ≡ files.now }
+        ensures counts { (result.calls ≡ 0) × (result.faults ≡ 0) × (result.overs ≡ 0) }
+    {
         StdFiles {
             files,
             alloc,
